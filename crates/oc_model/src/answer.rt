@@ -1,0 +1,87 @@
+//! What a command answers.
+
+use crate::value::Txt;
+use sqlite_items::Items;
+
+/// How an object is named: by its number where it is stored, else by its handle.
+#[derive(Clone, Copy, PartialEq, Eq)]
+pub enum Mark {
+    Number(u32),
+    Handle(u64),
+}
+
+/// A single value as it is shown. `None` is null.
+#[derive(Drop)]
+pub enum ShownAtom {
+    Bool(bool),
+    Int(i128),
+    Text(Option<Txt>),
+    Ref(Option<Mark>),
+}
+
+pub type ShownAtoms = Items<ShownAtom>;
+
+/// The value of a field as it is shown. `None` is the null array.
+#[derive(Drop)]
+pub enum ShownValue {
+    One(ShownAtom),
+    Many(Option<ShownAtoms>),
+}
+
+#[derive(Drop)]
+pub struct ShownField {
+    pub name: Txt,
+    pub value: ShownValue,
+}
+
+pub type ShownFields = Items<ShownField>;
+
+/// What is shown of an object: that it is inactive, or its fields.
+#[derive(Drop)]
+pub enum Shown {
+    Stub,
+    Fields(ShownFields),
+}
+
+/// An object as it is shown.
+#[derive(Drop)]
+pub struct ObjectLine {
+    pub mark: Mark,
+    pub class: Txt,
+    pub fields: Shown,
+}
+
+pub type ObjectLines = Items<ObjectLine>;
+
+/// Why a line was refused.
+#[derive(Clone, Copy, PartialEq, Eq)]
+pub enum Word {
+    /// The line is no command.
+    Syntax,
+    /// The line has more than 65,535 bytes.
+    Long,
+    /// There is no such class.
+    Class,
+    /// The class has no such field.
+    Field,
+    /// The value doesn't fit the field's kind.
+    Kind,
+    /// The name is there already, or given twice.
+    Exists,
+    /// Something is larger than its limit.
+    Size,
+    /// No object number is left.
+    Numbers,
+    /// The file has no room: what was needed, the file's length then, and its limit, in bytes.
+    Full { need: u64, len: u32, limit: u32 },
+}
+
+#[derive(Drop)]
+pub enum Answer {
+    Done,
+    /// The number of the root, and how many records were written.
+    Stored { number: u32, count: u32 },
+    Found(ObjectLines),
+    Closed,
+    Refused(Word),
+}
