@@ -118,3 +118,22 @@ pub struct Rec {
     pub class: u32,
     pub entries: Entries,
 }
+
+#[cfg(test)]
+mod tests {
+    use super::*;
+    use std::test::Fail;
+
+    #[test]
+    fn a_text_keeps_its_bytes(rt: HostRuntime) -> Result<(), Fail> {
+        for bytes in [b"".as_slice(), b"a", b"Michael\n\xc3\xa9\0"] {
+            let text = Txt::from_slice(rt.alloc(), bytes)?;
+            assert_eq!(rt; text.as_slice(), bytes);
+            let copy = text.copy(rt.alloc())?;
+            assert_eq!(rt; copy.as_slice(), bytes);
+            let again = Txt::from_vec(text.into_vec());
+            assert_eq!(rt; again.as_slice(), bytes);
+        }
+        Ok(())
+    }
+}

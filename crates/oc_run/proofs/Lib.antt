@@ -1,0 +1,5 @@
+pub mod LineByLine
+pub mod ListLemmas
+pub mod Parts
+pub mod Taking
+pub mod Whole

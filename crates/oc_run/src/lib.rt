@@ -1,0 +1,16 @@
+//! A run: from the words of a command line and a script to all that is said.
+#![tactic(auto)]
+
+mod answering;
+mod lines;
+mod list_store;
+mod running;
+mod script;
+mod status;
+#[cfg(test)]
+mod tests;
+mod words;
+
+pub use running::run;
+pub use status::Status;
+pub use words::{FileWords, file_words};

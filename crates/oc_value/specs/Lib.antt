@@ -1,0 +1,1 @@
+pub use Rattle.oc_model.specs.Values
