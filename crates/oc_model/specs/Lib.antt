@@ -3,3 +3,5 @@ pub mod Values
 pub mod Schemas
 pub mod Stores
 pub mod States
+pub mod Space
+mod Examples
