@@ -1,2 +1,5 @@
--- Worked examples of the definitions, by computation. Nothing stands on them.
+-- Worked examples, by computation. Nothing stands on them: each shows a definition against values that were written by hand.
+mod Building
+mod Queries
 mod Space
+mod Walks

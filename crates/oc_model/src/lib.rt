@@ -5,5 +5,10 @@
 
 pub mod answer;
 pub mod command;
+pub mod laws_maps;
+pub mod laws_queries;
+pub mod laws_walks;
+pub mod query;
+pub mod reach;
 pub mod schema;
 pub mod value;

@@ -1,0 +1,9 @@
+pub mod Elements
+pub mod Reaching
+pub mod Budgets
+pub mod Sorting
+pub mod Criteria
+pub mod Answering
+pub mod Meeting
+pub mod Parts
+pub mod MapLaws
