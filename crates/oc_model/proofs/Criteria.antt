@@ -1,4 +1,4 @@
--- The order of single values and that of criteria are total, and the latter tells numbers apart.
+-- The order by criteria is total, and tells numbers apart.
 use Rattle.std.proofs.Common.{◌≡◌, Bool, true, false, List, [], ◌∷◌}
 use Rattle.std.specs.Ordering.{ordering_then, on}
 use Rattle.std.specs.declared.cmp.Ordering.{Ordering}
@@ -8,13 +8,9 @@ use Rattle.std.proofs.lemmas.Cmp.{on_total, then_total, back_total, nat_list_cmp
 use Rattle.std.proofs.lemmas.Map.Lookups.{CmpEqualImpliesEq, exact_unsigned}
 use Rattle.oc_model.specs.declared.query.Criterion.{Criterion}
 use Rattle.oc_model.specs.Stores.{Store}
-use Rattle.oc_model.specs.Orders.{compare, rank, truth_of, number_of, text_of, ref_of}
+use Rattle.oc_model.specs.Orders.{compare}
 use Rattle.oc_model.specs.Queries.{criteria_cmp, key_at, turned}
-
-pub compare_total : IsTotalOrder compare
-compare_total =
-    then_total (on_total rank nat_cmp_total) (then_total (on_total truth_of bool_cmp_total)
-    (then_total (on_total number_of int_cmp_total) (then_total (on_total text_of nat_list_cmp_total) (on_total ref_of nat_cmp_total))))
+use Rattle.oc_model.proofs.Orders.{compare_total, last_equal}
 
 turned_total : {K : Type 0} (b : Bool) (R : K → K → Ordering) → IsTotalOrder R → IsTotalOrder (turned b R)
 turned_total true R o = o
@@ -23,11 +19,6 @@ turned_total false R o = back_total o
 pub criteria_total : (s : Store) (cs : List Criterion) → IsTotalOrder (criteria_cmp s cs)
 criteria_total s [] = nat_cmp_total
 criteria_total s (c ∷ cs) = then_total (turned_total c.ascending (on (key_at s c) compare) (on_total (key_at s c) compare_total)) (criteria_total s cs)
-
-last_equal : (a b : Ordering) → ordering_then a b ≡ Equal → b ≡ Equal
-last_equal Less b h = cc
-last_equal Equal b h = h
-last_equal Greater b h = cc
 
 pub criteria_exact : (s : Store) (cs : List Criterion) → CmpEqualImpliesEq (criteria_cmp s cs)
 criteria_exact s [] n m h = exact_unsigned n m h

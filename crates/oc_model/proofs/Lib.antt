@@ -2,8 +2,12 @@ pub mod Elements
 pub mod Reaching
 pub mod Budgets
 pub mod Sorting
+pub mod Orders
 pub mod Criteria
 pub mod Answering
 pub mod Meeting
 pub mod Parts
 pub mod MapLaws
+mod Conversions
+mod Decimals
+mod Lengths

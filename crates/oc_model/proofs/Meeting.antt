@@ -7,7 +7,8 @@ use Rattle.oc_model.specs.declared.query.Expr.{Expr}
 use Rattle.oc_model.specs.declared.query.Expr.TheVariants.{All, Not, And, Or, Test, Null, Is, Inside}
 use Rattle.oc_model.specs.Maps.{Text}
 use Rattle.oc_model.specs.Stores.{Store}
-use Rattle.oc_model.specs.Queries.{meets, values, passes, is_null, ref_meets, is_of}
+use Rattle.oc_model.specs.Queries.{meets, values, passes, ref_meets, is_of}
+use Rattle.oc_model.specs.Orders.{is_null}
 
 pub meets_all : (s : Store) (n : ℕ) → meets s All n ≡ true
 unfolding meets

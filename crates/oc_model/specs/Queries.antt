@@ -17,7 +17,7 @@ use denote.Hole.Carrier.{hidden}
 use Rattle.oc_model.specs.declared.query.Criterion.{Criterion}
 use Rattle.oc_model.specs.Maps.{at, keys, Text}
 use Rattle.oc_model.specs.Lists.{sorted}
-use Rattle.oc_model.specs.Orders.{compare, rank}
+use Rattle.oc_model.specs.Orders.{compare, rank, is_null}
 use Rattle.oc_model.specs.References.{refs_in}
 use Rattle.oc_model.specs.Schemas.{field_named, is_sub}
 use Rattle.oc_model.specs.Stores.{Store, class_of, value_in}
@@ -54,10 +54,6 @@ values s (name ∷ []) n = map (as_read s) (last_values (value_named s name (at 
 values s (name ∷ next ∷ path) n = flat_map (values s (next ∷ path)) (named (value_named s name (at s.records n)))
 
 -- ---- one value and a literal
-
--- the null text, the null reference, or what a null array gives
-abbrev pub is_null : Atom → Bool
-is_null a = rank a == 0
 
 -- a truth value, a number or a text, and no null
 abbrev pub is_ordered : Atom → Bool

@@ -13,8 +13,8 @@ ghost use Rattle.oc_model.specs.declared.query.Op.{Op};
 ghost use Rattle.oc_model.specs.declared.value.Atom.{Atom};
 ghost use Rattle.oc_model.specs.Lists.{sorted};
 ghost use Rattle.oc_model.specs.Maps.{Text, keys};
-ghost use Rattle.oc_model.specs.Orders.{compare};
-ghost use Rattle.oc_model.specs.Queries.{answer, begins_with, closes_with, criteria_cmp, found, has_part, is_null, is_of, meets, passes, ref_meets, values};
+ghost use Rattle.oc_model.specs.Orders.{is_null};
+ghost use Rattle.oc_model.specs.Queries.{answer, begins_with, closes_with, criteria_cmp, found, has_part, is_of, meets, passes, ref_meets, values};
 ghost use Rattle.oc_model.specs.Stores.{Store};
 
 /// What an object must be to meet an expression, by the cases of the expression.
@@ -40,10 +40,9 @@ pub fn text_tests_are_by_parts()
         → IsTrue (has_part part text) ↔ ((front : Text) × (rest : Text) × (text ≡ front ++ (part ++ rest))) }
 {}
 
-/// The order of single values is total. So is the order by criteria, and it tells numbers apart.
-pub fn orders_are_total()
-    ensures values { IsTotalOrder compare }
-    ensures criteria { (s : Store) (cs : List Criterion) → IsTotalOrder (criteria_cmp s cs) }
+/// The order by criteria is total, and it tells numbers apart.
+pub fn order_by_criteria_is_total()
+    ensures total { (s : Store) (cs : List Criterion) → IsTotalOrder (criteria_cmp s cs) }
     ensures apart { (s : Store) (cs : List Criterion) (n m : ℕ) → criteria_cmp s cs n m ≡ Equal → n ≡ m }
 {}
 

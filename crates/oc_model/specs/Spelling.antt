@@ -1,0 +1,112 @@
+-- The bytes of a record, of the entries of lists, and of the catalog. Numbers stand with their highest byte first.
+use Rattle.std.specs.Prelude.{ℕ, ◌+◌, Bool, List, [], ◌∷◌, ◌++◌, flat_map, length, Some, None, if◌then◌else◌}
+use Rattle.std.specs.Int.{Width, w16, w32, w128, to_be_bytes, bytes_high_first, cast_unsigned}
+use Rattle.oc_model.specs.declared.value.Base.{Base}
+use Rattle.oc_model.specs.declared.value.Base.TheVariants as base
+use Rattle.oc_model.specs.declared.value.Kind.{Kind}
+use Rattle.oc_model.specs.declared.value.Kind.TheVariants as kind
+use Rattle.oc_model.specs.declared.value.Atom.{Atom}
+use Rattle.oc_model.specs.declared.value.Atom.TheVariants as atom
+use Rattle.oc_model.specs.declared.value.Value.{Value}
+use Rattle.oc_model.specs.declared.value.Value.TheVariants as value
+use Rattle.oc_model.specs.declared.value.Entry.{Entry}
+use Rattle.oc_model.specs.declared.value.Rec.{Rec}
+use Rattle.oc_model.specs.declared.schema.FieldDef.{FieldDef}
+use Rattle.oc_model.specs.declared.schema.ClassDef.{ClassDef}
+use Rattle.oc_model.specs.Maps.{Text}
+use Rattle.oc_model.specs.Values.{fits}
+use Rattle.oc_model.specs.Schemas.{Schema}
+use Rattle.oc_model.specs.Stores.{width_of, base_of}
+
+-- how many there are, in a word of this width, and then the bytes of each
+abbrev pub counted : {X : Type 0} → Width → (X → List ℕ) → List X → List ℕ
+counted w bytes xs = to_be_bytes w (length xs) ++ flat_map bytes xs
+
+-- ---- values
+
+-- the byte that tells a base kind
+abbrev pub base_tag : Base → ℕ
+base_tag base.Bool = 1
+base_tag base.I8 = 2
+base_tag base.I16 = 3
+base_tag base.I32 = 4
+base_tag base.I64 = 5
+base_tag base.Text = 6
+base_tag base.Ref = 7
+base_tag base.U64 = 8
+base_tag base.I128 = 9
+
+-- the byte that tells a kind: for an array 16 more than for its elements
+abbrev pub kind_tag : Kind → ℕ
+kind_tag (kind.One b) = base_tag b
+kind_tag (kind.Many b) = 16 + base_tag b
+
+-- A number takes as many bytes as its kind is wide, in two's complement; one that isn't negative stands there as it is.
+-- Before a text stands whether it is null, and then how many bytes it has.
+abbrev pub atom_bytes : Base → Atom → List ℕ
+atom_bytes b (atom.Bool x) = (if x then 1 else 0) ∷ []
+atom_bytes b (atom.Int n) = bytes_high_first (width_of b) (cast_unsigned w128 n)
+atom_bytes b (atom.Text None) = 0 ∷ []
+atom_bytes b (atom.Text (Some t)) = 1 ∷ to_be_bytes w32 (length t) ++ t
+atom_bytes b (atom.Ref n) = to_be_bytes w32 n
+
+-- Before an array stands whether it is null, and then how many elements it has.
+abbrev pub value_bytes : Kind → Value → List ℕ
+value_bytes k (value.One a) = atom_bytes (base_of k) a
+value_bytes k (value.Many None) = 0 ∷ []
+value_bytes k (value.Many (Some items)) = 1 ∷ counted w32 (atom_bytes (base_of k)) items
+
+-- ---- records
+
+-- the field's id, the tag of its kind, and the value
+abbrev pub entry_bytes : Entry → List ℕ
+entry_bytes e = to_be_bytes w32 e.id ++ kind_tag e.kind ∷ value_bytes e.kind e.value
+
+-- the class, how many entries there are, and the entries
+unfoldable pub record_bytes : Rec → List ℕ
+record_bytes r = to_be_bytes w32 r.class ++ counted w16 entry_bytes r.entries
+
+-- the value in the entry is of the entry's kind
+abbrev pub entry_fits : Entry → Bool
+entry_fits e = fits e.kind e.value
+
+-- ---- lists of objects
+
+-- an object in the list of all objects: its number and its class
+abbrev pub extent_bytes : ℕ → ℕ → List ℕ
+extent_bytes number class = to_be_bytes w32 number ++ to_be_bytes w32 class
+
+-- an object in the list of a field of this base kind: the field's value and the object's number
+abbrev pub index_bytes : Base → Atom → ℕ → List ℕ
+index_bytes b key number = atom_bytes b key ++ to_be_bytes w32 number
+
+-- one segment of a list: how many entries it has, and the entries
+abbrev pub segment_bytes : {X : Type 0} → (X → List ℕ) → List X → List ℕ
+segment_bytes = counted w16
+
+-- ---- the catalog
+
+-- how many bytes the name has, and the bytes
+abbrev pub name_bytes : Text → List ℕ
+name_bytes name = length name ∷ name
+
+-- 1 for a current field, and 2 more for one that is indexed
+abbrev pub field_flags : FieldDef → ℕ
+field_flags f = (if f.current then 1 else 0) + (if f.indexed then 2 else 0)
+
+-- the field's id, its flags, the tag of its kind, and its name
+abbrev pub field_bytes : FieldDef → List ℕ
+field_bytes f = to_be_bytes w32 f.id ++ field_flags f ∷ kind_tag f.kind ∷ name_bytes f.name
+
+-- the parent's number, the name, how many own fields there are, and the fields
+abbrev pub class_bytes : ClassDef → List ℕ
+class_bytes c = to_be_bytes w32 c.parent ++ name_bytes c.name ++ counted w16 field_bytes c.fields
+
+-- the list's id, how many segments it has, and their numbers
+abbrev pub list_bytes : ℕ × List ℕ → List ℕ
+list_bytes l = to_be_bytes w32 l.0 ++ counted w32 (to_be_bytes w32) l.1
+
+-- The byte 1, the next object's number, the next field's id, the classes, and the lists: each with its id and the numbers of its segments.
+unfoldable pub catalog_bytes : ℕ → Schema → List (ℕ × List ℕ) → List ℕ
+catalog_bytes next schema lists =
+    1 ∷ to_be_bytes w32 next ++ to_be_bytes w32 schema.next_field ++ counted w16 class_bytes schema.classes ++ counted w32 list_bytes lists
