@@ -5,5 +5,6 @@
 
 pub mod answer;
 pub mod command;
+pub mod laws_schemas;
 pub mod schema;
 pub mod value;
