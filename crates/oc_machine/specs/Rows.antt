@@ -7,6 +7,7 @@ use Rattle.oc_machine.specs.Reading.{reading}
 use Rattle.oc_machine.specs.Printing.{answer_text}
 use Rattle.oc_machine.specs.Machine.{step}
 mod FirstPath
+mod NewClasses
 
 -- what a run computes with: a row names this alone
 unfoldable pub rows : Unit {0}

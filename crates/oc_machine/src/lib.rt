@@ -3,4 +3,5 @@
 //! The definitions stand in `specs/`; the tokens that they speak of stand here.
 #![tactic(auto)]
 
+pub mod laws;
 pub mod token;

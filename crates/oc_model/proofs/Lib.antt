@@ -1,1 +1,2 @@
+mod NewClass
 mod SchemaLaws

@@ -32,35 +32,35 @@ abbrev pub is_taken_around : Schema → ℕ → Text → Bool
 is_taken_around s c name = list_any (λ e. (is_above s e.0 c || is_above s c e.0) && list_any (is_called name) (current (e.1).fields)) (numbered s)
 
 -- the field with the greater id
-abbrev pub later : Option FieldDef → FieldDef → Option FieldDef
-later None f = Some f
-later (Some g) f = if nat_lt g.id f.id then Some f else Some g
+abbrev pub later_field : Option FieldDef → FieldDef → Option FieldDef
+later_field None f = Some f
+later_field (Some g) f = if nat_lt g.id f.id then Some f else Some g
 
 -- of these fields the past one of this name and kind, and of several the one with the greatest id
 abbrev pub past_field : List FieldDef → Text → Kind → Option FieldDef
-past_field fields name kind = fold later None (filter (λ f. not f.current && same f.name name && same_kind f.kind kind) fields)
+past_field fields name kind = fold later_field None (filter (λ f. not f.current && same f.name name && same_kind f.kind kind) fields)
 
 -- ---- class: the fields that a declaration leaves
 
 -- the current field of the declared name and kind
-abbrev pub kept : List FieldDef → Decl → Option FieldDef
-kept own d = find (λ f. f.current && same f.name d.name && same_kind f.kind d.kind) own
+abbrev pub kept_field : List FieldDef → Decl → Option FieldDef
+kept_field own d = find (λ f. f.current && same f.name d.name && same_kind f.kind d.kind) own
 
 -- current again, and without an index
-abbrev pub returned : FieldDef → FieldDef
-returned f = record f { current = true; indexed = false }
+abbrev pub made_current : FieldDef → FieldDef
+made_current f = record f { current = true; indexed = false }
 
 -- past, and without an index
-abbrev pub retired : FieldDef → FieldDef
-retired f = record f { current = false; indexed = false }
+abbrev pub made_past : FieldDef → FieldDef
+made_past f = record f { current = false; indexed = false }
 
 -- A field that is there already for a declaration: the current one of this name and kind as it is, else the past one, returned.
-abbrev pub found : List FieldDef → Decl → Option FieldDef
-found own d = option_or (kept own d) (option_map returned (past_field own d.name d.kind))
+abbrev pub field_for : List FieldDef → Decl → Option FieldDef
+field_for own d = option_or (kept_field own d) (option_map made_current (past_field own d.name d.kind))
 
 -- no field is there for the declaration, so it needs a new id
 abbrev pub is_new : List FieldDef → Decl → Bool
-is_new own d = is_none (found own d)
+is_new own d = is_none (field_for own d)
 
 abbrev pub new_field : ℕ → Decl → FieldDef
 new_field id d = record { id = id; name = d.name; kind = d.kind; current = true; indexed = false }
@@ -68,19 +68,19 @@ new_field id d = record { id = id; name = d.name; kind = d.kind; current = true;
 -- The current fields, in the order of the declarations. Those that are new get ids from this one on.
 abbrev pub stated_fields : List FieldDef → ℕ → List Decl → List FieldDef
 stated_fields own id [] = []
-stated_fields own id (d ∷ ds) = unwrap_or (found own d) (new_field id d) ∷ stated_fields own (if is_new own d then id + 1 else id) ds
+stated_fields own id (d ∷ ds) = unwrap_or (field_for own d) (new_field id d) ∷ stated_fields own (if is_new own d then id + 1 else id) ds
 
 -- ascending by id
 abbrev pub by_id : List FieldDef → List FieldDef
 by_id fields = map (λ e. e.1) (fold (λ (m : Map FieldDef) f. with_at m f.id f) [] fields)
 
 -- the own fields that aren't among the stated ones
-abbrev pub unstated : List FieldDef → List FieldDef → List FieldDef
-unstated own stated = filter (λ f. not (is_in (map (λ g. g.id) stated) f.id)) own
+abbrev pub unstated_fields : List FieldDef → List FieldDef → List FieldDef
+unstated_fields own stated = filter (λ f. not (is_in (map (λ g. g.id) stated) f.id)) own
 
 -- the stated fields and behind them the past ones
 abbrev pub declared_fields : List FieldDef → ℕ → List Decl → List FieldDef
-declared_fields own id ds = let stated = stated_fields own id ds in stated ++ by_id (map retired (unstated own stated))
+declared_fields own id ds = let stated = stated_fields own id ds in stated ++ by_id (map made_past (unstated_fields own stated))
 
 -- ---- class: the schema
 
@@ -111,8 +111,8 @@ parent_number s None = Ok 0
 parent_number s (Some name) = or_refuse (class_named s name) word.Class
 
 -- the schema, where it is within the limits
-abbrev pub limited : Schema → Checked Schema
-limited s = unless (is_within_limits s) word.Size >> Ok s
+abbrev pub within_limits : Schema → Checked Schema
+within_limits s = unless (is_within_limits s) word.Size >> Ok s
 
 abbrev pub names_of : List Decl → List Text
 names_of ds = map (λ d. d.name) ds
@@ -121,14 +121,14 @@ names_of ds = map (λ d. d.name) ds
 abbrev pub declared_new : Schema → Text → ℕ → List Decl → Checked Schema
 declared_new s name p ds =
     unless (are_distinct (names_of ds) && not (list_any (λ n. is_some (field_named s p n)) (names_of ds))) word.Exists >>
-    limited (with_new_class s name p ds)
+    within_limits (with_new_class s name p ds)
 
 -- a class that is there
 abbrev pub declared_again : Schema → ℕ → ℕ → List Decl → Checked Schema
 declared_again s c p ds =
     unless (p == parent_of (class_at s c)) word.Parent >>
     unless (are_distinct (names_of ds) && not (list_any (is_taken_around s c) (names_of ds))) word.Exists >>
-    limited (with_declared s c ds)
+    within_limits (with_declared s c ds)
 
 -- a class that is there, where it has a number, else a new one
 abbrev pub declared_under : Option ℕ → Schema → Text → ℕ → List Decl → Checked Schema
