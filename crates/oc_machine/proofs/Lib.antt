@@ -1,1 +1,2 @@
 pub mod Grammars
+mod NewClasses

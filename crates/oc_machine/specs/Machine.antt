@@ -1,5 +1,5 @@
 -- What each command does to the state, and what it answers.
-use Rattle.std.specs.Prelude.{ℕ, ◌+◌, Bool, true, false, not, ◌&&◌, nat_lt, nat_le, List, [], ◌∷◌, ◌++◌, map, filter, filter_map, length, Option, Some, None, Result, Ok, Err, is_some, option_map, unwrap_or, if◌then◌else◌}
+use Rattle.std.specs.Prelude.{ℕ, ◌+◌, Bool, true, false, not, ◌&&◌, nat_lt, nat_le, List, [], ◌∷◌, ◌++◌, map, filter, filter_map, length, Option, Some, None, Ok, Err, is_some, option_map, unwrap_or, if◌then◌else◌}
 use Rattle.std.specs.List.{list_any}
 use Rattle.oc_model.specs.declared.value.Base.TheVariants as base
 use Rattle.oc_model.specs.declared.value.Kind.{Kind}
@@ -27,7 +27,6 @@ use Rattle.oc_model.specs.declared.answer.ShownValue.TheVariants as shown_value
 use Rattle.oc_model.specs.declared.answer.Shown.{Shown}
 use Rattle.oc_model.specs.declared.answer.Shown.TheVariants as shown
 use Rattle.oc_model.specs.declared.answer.ObjectLine.{ObjectLine}
-use Rattle.oc_model.specs.declared.answer.Word.{Word}
 use Rattle.oc_model.specs.declared.answer.Word.TheVariants as word
 use Rattle.oc_model.specs.declared.answer.Answer.{Answer}
 use Rattle.oc_model.specs.declared.answer.Answer.TheVariants as answer
@@ -36,37 +35,13 @@ use Rattle.oc_model.specs.Values.{fits}
 use Rattle.oc_model.specs.Schemas.{Schema, class_at, class_named, fields_of, field_named, is_sub}
 use Rattle.oc_model.specs.Stores.{Store, class_of, value_in, entered, entry_for, written, record_len}
 use Rattle.oc_model.specs.States.{State}
+pub use Rattle.oc_model.specs.Refusals.{Checked, ◌>>=◌, ◌>>◌, unless, or_refuse}
 
 -- ---- refusals
 
 -- the new state and the answer
 abbrev pub Outcome : Type 0
 Outcome = State × Answer
-
--- a value, or the first refusal
-abbrev pub Checked : Type 0 → Type 0
-Checked A = Result A Word
-
-infixl 10 ◌>>=◌
--- what follows, unless there was a refusal
-abbrev pub ◌>>=◌ : {A B : Type 0} → Checked A → (A → Checked B) → Checked B
-(Ok a) >>= f = f a
-(Err w) >>= f = Err w
-
-infixl 10 ◌>>◌
-abbrev pub ◌>>◌ : {A B : Type 0} → Checked A → Checked B → Checked B
-(Ok a) >> r = r
-(Err w) >> r = Err w
-
--- the refusal, unless the test holds
-abbrev pub unless : Bool → Word → Checked (Unit {0})
-unless true w = Ok tt
-unless false w = Err w
-
--- the refusal, where there is nothing
-abbrev pub or_refuse : {A : Type 0} → Option A → Word → Checked A
-or_refuse None w = Err w
-or_refuse (Some a) w = Ok a
 
 -- a refusal leaves the state as it is
 abbrev pub settled : State → Checked Outcome → Outcome

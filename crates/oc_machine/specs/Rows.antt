@@ -8,6 +8,7 @@ use Rattle.oc_machine.specs.Printing.{answer_text}
 use Rattle.oc_machine.specs.Machine.{step}
 mod FirstPath
 mod Generated
+mod NewClasses
 
 -- what a run computes with: a row names this alone
 unfoldable pub rows : Unit {0}

@@ -11,3 +11,5 @@ pub mod MapLaws
 mod Conversions
 mod Decimals
 mod Lengths
+mod NewClass
+mod SchemaLaws

@@ -1,8 +1,12 @@
 -- Worked examples, by computation. Nothing stands on them: each shows a definition against values that were written by hand.
 mod Building
+mod ClassLines
 mod Conversions
+mod FieldLines
 mod Orders
 mod Queries
+mod SchemaLines
+mod SchemaRules
 mod Space
 mod Spelling
 mod Walks

@@ -2,7 +2,12 @@ pub mod Maps
 pub mod Values
 pub mod Orders
 pub mod Conversions
+pub mod Kinds
+pub mod Refusals
 pub mod Schemas
+pub mod SchemaRules
+pub mod SchemaSteps
+pub mod SchemaEquality
 pub mod Stores
 pub mod Spelling
 pub mod States

@@ -68,6 +68,10 @@ pub enum Word {
     Kind,
     /// The name is there already, or given twice.
     Exists,
+    /// The stated parent isn't the class's.
+    Parent,
+    /// The class has no own past field of that name and kind.
+    Past,
     /// Something is larger than its limit.
     Size,
     /// No object number is left.

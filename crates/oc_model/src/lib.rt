@@ -10,6 +10,7 @@ pub mod laws_conversions;
 pub mod laws_maps;
 pub mod laws_orders;
 pub mod laws_queries;
+pub mod laws_schemas;
 pub mod laws_spelling;
 pub mod laws_walks;
 pub mod query;

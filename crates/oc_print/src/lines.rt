@@ -81,6 +81,8 @@ fn put_word(out: &mut Vec<u8>, refusal: Word) -> Result<(), AllocError>
         Word::Field => out.extend_from_slice(b"field"),
         Word::Kind => out.extend_from_slice(b"kind"),
         Word::Exists => out.extend_from_slice(b"exists"),
+        Word::Parent => out.extend_from_slice(b"parent"),
+        Word::Past => out.extend_from_slice(b"past"),
         Word::Size => out.extend_from_slice(b"size"),
         Word::Numbers => out.extend_from_slice(b"numbers"),
         Word::Full { .. } => out.extend_from_slice(b"full"),

@@ -156,6 +156,8 @@ fn answers(rt: HostRuntime) -> Result<(), Fail> {
         (Answer::Refused(Word::Field), "error field\n"),
         (Answer::Refused(Word::Kind), "error kind\n"),
         (Answer::Refused(Word::Exists), "error exists\n"),
+        (Answer::Refused(Word::Parent), "error parent\n"),
+        (Answer::Refused(Word::Past), "error past\n"),
         (Answer::Refused(Word::Size), "error size\n"),
         (Answer::Refused(Word::Numbers), "error numbers\n"),
         (

@@ -1,0 +1,20 @@
+//! Laws of the definitions on schemas.
+
+ghost use Rattle.std.specs.Prelude.{◌≡◌, ◌+◌, ◌&&◌, true, false, List, length, nat_lt, nat_le};
+ghost use Rattle.oc_model.specs.Schemas.{Schema};
+ghost use Rattle.oc_model.specs.SchemaEquality.{differs};
+ghost use Rattle.oc_model.specs.SchemaRules.{has_earlier_parents, is_within_limits};
+ghost use Rattle.oc_model.specs.SchemaSteps.{with_new_class};
+ghost use Rattle.oc_model.specs.Maps.{Text};
+ghost use Rattle.oc_model.specs.declared.command.Decl.{Decl};
+
+/// Two schemas differ exactly where they aren't equal.
+pub fn differs_tells()
+    ensures equal { (s t : Schema) → differs s t ≡ false → s ≡ t }
+    ensures alike { (s t : Schema) → s ≡ t → differs s t ≡ false }
+{}
+
+/// With a new class that has no parent the limits ask for its own fields, for one class more and for its ids alone.
+pub fn new_class_limits()
+    ensures { (s : Schema) (name : Text) (ds : List Decl) → has_earlier_parents s ≡ true → is_within_limits s ≡ true → is_within_limits (with_new_class s name 0 ds) ≡ (nat_lt (length s.classes) 65535 && nat_le (length ds) 255 && nat_le (s.next_field + length ds) 4294967295) }
+{}
