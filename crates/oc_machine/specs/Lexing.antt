@@ -1,10 +1,11 @@
 -- The tokens of a line.
-use Rattle.std.specs.Prelude.{ℕ, zero, suc, ◌+◌, ◌-◌, ◌*◌, ◌^◌, Bool, true, false, not, ◌&&◌, ◌||◌, ◌==◌, nat_lt, nat_le, List, [], ◌∷◌, take, fold, Option, Some, None, if◌then◌else◌}
+use Rattle.std.specs.Prelude.{ℕ, zero, suc, ◌+◌, ◌-◌, ◌*◌, ◌^◌, Bool, true, false, not, ◌&&◌, ◌||◌, ◌==◌, nat_lt, nat_le, List, [], ◌∷◌, take, Option, Some, None, if◌then◌else◌}
 use Rattle.std.specs.List.{prefix_len}
 use Rattle.std.specs.Char.{is_ascii_digit, is_ascii_alphabetic, is_ascii_alphanumeric}
 use Rattle.std.specs.Str.{is_utf8, chars}
 use lib.Utf8.{encode}
 use Rattle.oc_model.specs.Maps.{Text}
+pub use Rattle.oc_model.specs.Conversions.{number}
 use Rattle.oc_machine.specs.declared.token.Sign.{Sign}
 use Rattle.oc_machine.specs.declared.token.Sign.TheVariants.{OpenBrace, CloseBrace, OpenParenthesis, CloseParenthesis, OpenBracket, CloseBracket, Colon, Comma, Dot, Equal, Less, AtMost, Greater, AtLeast}
 use Rattle.oc_machine.specs.declared.token.Token.{Token}
@@ -37,10 +38,6 @@ begins_word c = is_ascii_alphabetic c || c == 95
 
 abbrev pub in_word : ℕ → Bool
 in_word c = is_ascii_alphanumeric c || c == 95
-
--- the number that decimal digits spell
-abbrev pub number : Text → ℕ
-number digits = fold (λ n d. 10 * n + (d - 48)) 0 digits
 
 -- All digits at the front: 1 to 39 of them, for a number up to the limit.
 unfoldable pub natural : ℕ → Text → Read ℕ

@@ -33,8 +33,9 @@ use Rattle.oc_model.specs.declared.answer.Answer.TheVariants as answer
 use Rattle.oc_model.specs.Maps.{at, with_at, keys, Text, same, are_distinct}
 use Rattle.oc_model.specs.Values.{fits}
 use Rattle.oc_model.specs.Schemas.{Schema, class_at, class_named, fields_of, field_named, is_sub}
-use Rattle.oc_model.specs.Stores.{Store, class_of, value_in, entered, entry_for, written, record_len}
+use Rattle.oc_model.specs.Stores.{Store, value_in, entered, entry_for, written, record_len}
 use Rattle.oc_model.specs.States.{State}
+pub use Rattle.oc_model.specs.Queries.{is_of}
 pub use Rattle.oc_model.specs.Refusals.{Checked, ◌>>=◌, ◌>>◌, unless, or_refuse}
 
 -- ---- refusals
@@ -151,11 +152,6 @@ unfoldable pub stored_line : Store → ℕ → Option ObjectLine
 unfolding fields_of
 stored_line s n =
     option_map (λ r. record { mark = mark.Number n; class = class_name s.schema r.class; fields = shown_fields (stored_mark s) (fields_of s.schema r.class) r.entries }) (at s.records n)
-
--- the object is of the class or of one below it
-abbrev pub is_of : Store → ℕ → ℕ → Bool
-unfolding is_sub
-is_of s c n = unwrap_or (option_map (λ d. is_sub s.schema d c) (class_of s n)) false
 
 -- the objects of a class, by number
 unfoldable pub objects_of : Store → ℕ → List ℕ

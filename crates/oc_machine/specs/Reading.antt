@@ -15,6 +15,7 @@ use Rattle.oc_model.specs.declared.command.Command.TheVariants.{Class, Make, Que
 use Rattle.oc_model.specs.declared.answer.Word.{Word}
 use Rattle.oc_model.specs.declared.answer.Word.TheVariants.{Syntax, Long}
 use Rattle.oc_model.specs.Maps.{Text, same}
+use Rattle.oc_model.specs.SchemaRules.{reserved_words}
 use Rattle.oc_machine.specs.declared.token.Sign.{Sign}
 use Rattle.oc_machine.specs.declared.token.Sign.TheVariants.{OpenBrace, CloseBrace, Colon, Comma}
 use Rattle.oc_machine.specs.declared.token.Token.{Token}
@@ -55,13 +56,9 @@ abbrev pub next_is : Sign → List Token → Bool
 next_is s [] = false
 next_is s (t ∷ ts) = is_sign s t
 
--- words that are no names
-abbrev pub reserved : List Text
-reserved =
-    codes "true" ∷ codes "false" ∷ codes "null" ∷ codes "and" ∷ codes "or" ∷ codes "not" ∷ codes "where" ∷ codes "order" ∷ codes "asc" ∷ codes "desc" ∷ []
-
+-- a word that is no name
 abbrev pub is_reserved : Text → Bool
-is_reserved t = list_any (same t) reserved
+is_reserved t = list_any (same t) reserved_words
 
 abbrev pub name : Parser Text
 name (a_word t ∷ ts) = not (is_reserved t) >> Some (t, ts)

@@ -10,12 +10,12 @@ use Rattle.std.proofs.lemmas.List.Sums.{fold-append}
 use Rattle.std.proofs.lemmas.Bool.Decides.{nat_tests}
 use Rattle.std.proofs.lemmas.Bool.{and_parts, and_from}
 use Rattle.oc_model.specs.Maps.{Text}
-use Rattle.oc_model.specs.Conversions.{decimal_number, natural_spelled, number_spelled}
+use Rattle.oc_model.specs.Conversions.{number, natural_spelled, number_spelled}
 
 record IsDecimal (n : ℕ) (ds : Text) : Type 0 where
   some : 1 ≤ length ds
   are_digits : IsTrue (list_all is_ascii_digit ds)
-  value : decimal_number ds ≡ n
+  value : number ds ≡ n
 
 digit : (d : ℕ) → d < 10 → IsTrue (is_ascii_digit (48 + d))
 digit d h = grind (arith, nat_tests)

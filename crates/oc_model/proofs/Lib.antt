@@ -12,4 +12,5 @@ mod Conversions
 mod Decimals
 mod Lengths
 mod NewClass
+mod PastFields
 mod SchemaLaws

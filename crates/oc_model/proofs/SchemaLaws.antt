@@ -94,7 +94,7 @@ equal_fields f g h =
       indexed = equal_flags f.indexed g.indexed d.1 i;
     }
 
-same_fields : (f : FieldDef) → same_field f f ≡ true
+pub same_fields : (f : FieldDef) → same_field f f ≡ true
 same_fields f =
     and_from _ _ (and_from _ _ (and_from _ _ (and_from _ _ (same_number f.id) (same_text f.name)) (same_number (kind_tag f.kind))) (same_flags f.current)) (same_flags f.indexed)
 

@@ -31,13 +31,13 @@ abbrev pub truth_spelled : Text → Option Bool
 truth_spelled t = if same t (codes "true") then Some true else if same t (codes "false") then Some false else None
 
 -- the number that decimal digits spell
-abbrev pub decimal_number : Text → ℕ
-decimal_number digits = fold (λ n d. 10 * n + (d - 48)) 0 digits
+abbrev pub number : Text → ℕ
+number digits = fold (λ n d. 10 * n + (d - 48)) 0 digits
 
 -- the number that the text spells, if it is 1 to 39 decimal digits
 abbrev pub natural_spelled : Text → Option ℕ
 natural_spelled t =
-    if nat_le 1 (length t) && nat_le (length t) 39 && list_all is_ascii_digit t then Some (decimal_number t) else None
+    if nat_le 1 (length t) && nat_le (length t) 39 && list_all is_ascii_digit t then Some (number t) else None
 
 -- the number that the text spells, if it is such digits, with or without a `-` in front
 abbrev pub number_spelled : Text → Option ℤ

@@ -36,9 +36,13 @@ abbrev pub later_field : Option FieldDef → FieldDef → Option FieldDef
 later_field None f = Some f
 later_field (Some g) f = if nat_lt g.id f.id then Some f else Some g
 
--- of these fields the past one of this name and kind, and of several the one with the greatest id
+-- of these fields the past ones of this name and kind
+abbrev pub past_fields : List FieldDef → Text → Kind → List FieldDef
+past_fields fields name kind = filter (λ f. not f.current && same f.name name && same_kind f.kind kind) fields
+
+-- the one among those with the greatest id
 abbrev pub past_field : List FieldDef → Text → Kind → Option FieldDef
-past_field fields name kind = fold later_field None (filter (λ f. not f.current && same f.name name && same_kind f.kind kind) fields)
+past_field fields name kind = fold later_field None (past_fields fields name kind)
 
 -- ---- class: the fields that a declaration leaves
 
