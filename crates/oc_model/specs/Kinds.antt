@@ -1,4 +1,4 @@
--- Kinds by number: which are the same, and which are arrays.
+-- Kinds by number: the byte that tells a kind in a file. Which kinds are the same, and which are arrays.
 use Rattle.std.specs.Prelude.{ℕ, ◌+◌, Bool, true, false, ◌==◌}
 use Rattle.oc_model.specs.declared.value.Base.{Base}
 use Rattle.oc_model.specs.declared.value.Base.TheVariants as base

@@ -20,6 +20,7 @@ abbrev pub stored_fields : Option ClassDef → List FieldDef
 stored_fields None = []
 stored_fields (Some c) = c.fields
 
+-- the field has this name
 abbrev pub is_called : Text → FieldDef → Bool
 is_called name f = same f.name name
 
@@ -66,6 +67,7 @@ field_for own d = option_or (kept_field own d) (option_map made_current (past_fi
 abbrev pub is_new : List FieldDef → Decl → Bool
 is_new own d = is_none (field_for own d)
 
+-- a field that wasn't there
 abbrev pub new_field : ℕ → Decl → FieldDef
 new_field id d = record { id = id; name = d.name; kind = d.kind; current = true; indexed = false }
 
@@ -118,6 +120,7 @@ parent_number s (Some name) = or_refuse (class_named s name) word.Class
 abbrev pub within_limits : Schema → Checked Schema
 within_limits s = unless (is_within_limits s) word.Size >> Ok s
 
+-- the names that are declared
 abbrev pub names_of : List Decl → List Text
 names_of ds = map (λ d. d.name) ds
 

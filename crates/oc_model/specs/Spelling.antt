@@ -2,9 +2,7 @@
 use Rattle.std.specs.Prelude.{ℕ, ◌+◌, Bool, List, [], ◌∷◌, ◌++◌, flat_map, length, Some, None, if◌then◌else◌}
 use Rattle.std.specs.Int.{Width, w16, w32, w128, to_be_bytes, bytes_high_first, cast_unsigned}
 use Rattle.oc_model.specs.declared.value.Base.{Base}
-use Rattle.oc_model.specs.declared.value.Base.TheVariants as base
 use Rattle.oc_model.specs.declared.value.Kind.{Kind}
-use Rattle.oc_model.specs.declared.value.Kind.TheVariants as kind
 use Rattle.oc_model.specs.declared.value.Atom.{Atom}
 use Rattle.oc_model.specs.declared.value.Atom.TheVariants as atom
 use Rattle.oc_model.specs.declared.value.Value.{Value}
@@ -15,6 +13,7 @@ use Rattle.oc_model.specs.declared.schema.FieldDef.{FieldDef}
 use Rattle.oc_model.specs.declared.schema.ClassDef.{ClassDef}
 use Rattle.oc_model.specs.Maps.{Text}
 use Rattle.oc_model.specs.Values.{fits}
+use Rattle.oc_model.specs.Kinds.{kind_tag}
 use Rattle.oc_model.specs.Schemas.{Schema}
 use Rattle.oc_model.specs.Stores.{width_of, base_of}
 
@@ -23,23 +22,6 @@ abbrev pub counted : {X : Type 0} → Width → (X → List ℕ) → List X → 
 counted w bytes xs = to_be_bytes w (length xs) ++ flat_map bytes xs
 
 -- ---- values
-
--- the byte that tells a base kind
-abbrev pub base_tag : Base → ℕ
-base_tag base.Bool = 1
-base_tag base.I8 = 2
-base_tag base.I16 = 3
-base_tag base.I32 = 4
-base_tag base.I64 = 5
-base_tag base.Text = 6
-base_tag base.Ref = 7
-base_tag base.U64 = 8
-base_tag base.I128 = 9
-
--- the byte that tells a kind: for an array 16 more than for its elements
-abbrev pub kind_tag : Kind → ℕ
-kind_tag (kind.One b) = base_tag b
-kind_tag (kind.Many b) = 16 + base_tag b
 
 -- A number takes as many bytes as its kind is wide, in two's complement; one that isn't negative stands there as it is.
 -- Before a text stands whether it is null, and then how many bytes it has.

@@ -1,7 +1,8 @@
 -- Schemas that keep the rules, and some that break one; schemas that differ.
-use Rattle.std.specs.Prelude.{◌≡◌, refl, true, false, [], ◌∷◌}
+use Rattle.std.specs.Prelude.{◌≡◌, refl, ℕ, ◌+◌, true, false, [], ◌∷◌, map, replicate}
+use Rattle.std.specs.List.{range_with_len}
 use Rattle.oc_model.specs.Schemas.{Schema, empty_schema}
-use Rattle.oc_model.specs.SchemaRules.{has_names, has_distinct_classes, has_earlier_parents, has_distinct_names, has_distinct_ids, has_drawn_ids, has_ordered_fields, has_no_past_index, has_no_array_index, keeps_rules}
+use Rattle.oc_model.specs.SchemaRules.{has_names, has_distinct_classes, has_earlier_parents, has_distinct_names, has_distinct_ids, has_drawn_ids, has_ordered_fields, has_no_past_index, has_no_array_index, has_few_classes, has_few_own_fields, keeps_rules}
 use Rattle.oc_model.specs.SchemaEquality.{differs}
 use Rattle.oc_model.specs.Examples.SchemaLines.{schemas, i8, i32, text, i8s, field, indexed, past, a_class, a_schema}
 
@@ -58,6 +59,22 @@ past_with_an_index = refl
 
 array_with_an_index : has_no_array_index (a_schema 2 (a_class "A" 0 (indexed 1 "a" i8s ∷ []) ∷ [])) ≡ false
 array_with_an_index = refl
+
+-- a class with so many past fields
+abbrev with_past : ℕ → Schema
+with_past n = a_schema (n + 1) (record { name = []; parent = 0; fields = map (λ id. past id "a" i8) (range_with_len 1 n) } ∷ [])
+
+own_with_past : has_few_own_fields (with_past 1000) ≡ true
+own_with_past = refl
+
+too_many_own_with_past : has_few_own_fields (with_past 1001) ≡ false
+too_many_own_with_past = refl
+
+classes : has_few_classes (a_schema 1 (replicate 65535 (a_class "A" 0 []))) ≡ true
+classes = refl
+
+too_many_classes : has_few_classes (a_schema 1 (replicate 65536 (a_class "A" 0 []))) ≡ false
+too_many_classes = refl
 
 -- ---- whether they differ
 

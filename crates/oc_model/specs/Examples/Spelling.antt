@@ -7,7 +7,8 @@ use Rattle.oc_model.specs.declared.value.Value.TheVariants as value
 use Rattle.oc_model.specs.declared.value.Rec.{Rec}
 use Rattle.oc_model.specs.Stores.{record_len}
 use Rattle.oc_model.specs.Schemas.{Schema, empty_schema}
-use Rattle.oc_model.specs.Spelling.{atom_bytes, value_bytes, kind_tag, record_bytes, extent_bytes, index_bytes, segment_bytes, field_bytes, catalog_bytes}
+use Rattle.oc_model.specs.Kinds.{kind_tag}
+use Rattle.oc_model.specs.Spelling.{atom_bytes, value_bytes, record_bytes, extent_bytes, index_bytes, segment_bytes, field_bytes, catalog_bytes}
 
 -- ---- records
 
