@@ -15,5 +15,7 @@ pub mod Lists
 pub mod References
 pub mod Walks
 pub mod Queries
+pub mod Candidates
 pub mod Space
+pub mod Lengths
 mod Examples
