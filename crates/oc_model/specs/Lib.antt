@@ -11,10 +11,14 @@ pub mod SchemaEquality
 pub mod Stores
 pub mod Spelling
 pub mod States
+pub mod Nodes
+pub mod StateRules
 pub mod Lists
 pub mod References
 pub mod Walks
+pub mod StateWalks
 pub mod Queries
+pub mod ByExample
 pub mod Candidates
 pub mod Space
 pub mod Lengths
