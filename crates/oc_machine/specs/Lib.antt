@@ -2,7 +2,18 @@ pub mod Lexing
 pub mod Reading
 pub mod Grammar
 pub mod Printing
+pub mod Outcomes
+pub mod Memory
+pub mod Values
+pub mod Showing
+pub mod SchemaLines
+pub mod ObjectLines
+pub mod WalkLines
+pub mod QueryLines
+pub mod CommitLines
 pub mod Machine
 pub mod Runs
+pub mod Costs
+pub mod Room
 pub mod Generated
 mod Rows

@@ -11,6 +11,7 @@ use Rattle.oc_model.specs.declared.answer.ShownField.{ShownField}
 use Rattle.oc_model.specs.declared.answer.Shown.{Shown}
 use Rattle.oc_model.specs.declared.answer.Shown.TheVariants as shown
 use Rattle.oc_model.specs.declared.answer.ObjectLine.{ObjectLine}
+use Rattle.oc_model.specs.declared.answer.NameLine.{NameLine}
 use Rattle.oc_model.specs.declared.answer.Word.{Word}
 use Rattle.oc_model.specs.declared.answer.Word.TheVariants as word
 use Rattle.oc_model.specs.declared.answer.Answer.{Answer}
@@ -80,21 +81,51 @@ object_line o = line (mark_text o.mark ++ codes " " ++ o.class ++ fields_text o.
 abbrev pub word_text : Word → Text
 word_text word.Syntax = codes "syntax"
 word_text word.Long = codes "long"
+word_text word.Deep = codes "deep"
 word_text word.Class = codes "class"
 word_text word.Field = codes "field"
 word_text word.Kind = codes "kind"
+word_text word.Name = codes "name"
 word_text word.Exists = codes "exists"
 word_text word.Parent = codes "parent"
 word_text word.Past = codes "past"
+word_text word.Live = codes "live"
+word_text word.Stub = codes "stub"
+word_text word.Cycle = codes "cycle"
 word_text word.Size = codes "size"
 word_text word.Numbers = codes "numbers"
 word_text (word.Full need len limit) = codes "full"
 
+-- a bound name, its object, and whether that is active
+abbrev pub state_text : NameLine → Text
+state_text n = elim n.mark [
+  | mark.Handle h ↦ codes "unsaved"
+  | mark.Number k ↦ if n.active then codes "active" else codes "stub"
+]
+
+unfoldable pub name_line : NameLine → Text
+unfolding digits
+name_line n = line (n.name ++ codes " " ++ mark_text n.mark ++ codes " " ++ state_text n)
+
+-- a word and a number behind it
+abbrev pub counted : Text → ℕ → Text
+counted word n = line (word ++ codes " " ++ decimal n)
+
 -- the lines that an answer says
 unfoldable pub answer_text : Answer → Text
-unfolding digits object_line
+unfolding digits object_line name_line
 answer_text answer.Done = line (codes "ok")
 answer_text (answer.Stored n k) = line (codes "stored ~" ++ decimal n ++ codes " " ++ decimal k)
-answer_text (answer.Found os) = flat_map object_line os ++ line (codes "found " ++ decimal (length os))
+answer_text (answer.Deleted k) = counted (codes "deleted") k
+answer_text (answer.Activated k) = counted (codes "activated") k
+answer_text (answer.Deactivated k) = counted (codes "deactivated") k
+answer_text (answer.Refreshed k) = counted (codes "refreshed") k
+answer_text (answer.Converted k) = counted (codes "converted") k
+answer_text (answer.Found os) = flat_map object_line os ++ counted (codes "found") (length os)
+answer_text (answer.Shown os) = flat_map object_line os ++ counted (codes "shown") (length os)
+answer_text (answer.Peeked os) = flat_map object_line os ++ counted (codes "peeked") (length os)
+answer_text (answer.Names ns) = flat_map name_line ns ++ counted (codes "names") (length ns)
+answer_text (answer.Committed k) = counted (codes "committed") k
+answer_text answer.RolledBack = line (codes "rolled back")
 answer_text answer.Closed = line (codes "closed")
 answer_text (answer.Refused w) = line (codes "error " ++ word_text w)

@@ -120,14 +120,14 @@ given = name >=> λ n. expect Colon >=> λ _. a_value >=> λ v. pure (record { n
 
 unfoldable pub class_line : Parser Command
 unfolding decl
-class_line = name >=> λ n. enclosed OpenBrace CloseBrace decl >=> λ ds. pure (Class n ds)
+class_line = name >=> λ n. enclosed OpenBrace CloseBrace decl >=> λ ds. pure (Class n None ds)
 
 unfoldable pub make_line : Parser Command
 unfolding given
 make_line = name >=> λ c. enclosed OpenBrace CloseBrace given >=> λ gs. pure (Make c gs)
 
 unfoldable pub query_line : Parser Command
-query_line = name >=> λ c. pure (Query c)
+query_line = name >=> λ c. pure (Query c None [])
 
 abbrev pub by_word : Text → Parser Command
 unfolding class_line make_line query_line

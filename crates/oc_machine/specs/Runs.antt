@@ -1,18 +1,26 @@
--- What a whole run says, and what it leaves.
-use Rattle.std.specs.Prelude.{ℕ, ◌+◌, Bool, true, false, not, ◌&&◌, ◌||◌, ◌==◌, List, [], ◌∷◌, ◌++◌, length, flat_map, codes, Option, Some, None, is_none, option_to_list, if◌then◌else◌}
-use Rattle.std.specs.List.{list_any}
+-- What a whole run says, and what it commits.
+use Rattle.std.specs.Prelude.{ℕ, ◌+◌, Bool, true, false, not, ◌&&◌, ◌||◌, ◌==◌, List, [], ◌∷◌, ◌++◌, length, flat_map, codes, Option, Some, None, is_none, option_to_list, slice_get, if◌then◌else◌}
+use Rattle.std.specs.List.{list_any, list_all}
 use Rattle.oc_model.specs.declared.command.Command.{Command}
-use Rattle.oc_model.specs.declared.command.Command.TheVariants.{Class, Make, Query}
+use Rattle.oc_model.specs.declared.command.Command.TheVariants.{Class, Make, Query, Store, Convert, Commit}
+use Rattle.oc_model.specs.declared.command.Single.TheVariants as single
+use Rattle.oc_model.specs.declared.command.ValueText.{ValueText}
+use Rattle.oc_model.specs.declared.command.ValueText.TheVariants as valued
+use Rattle.oc_model.specs.declared.value.Base.TheVariants as base
+use Rattle.oc_model.specs.declared.value.Kind.{Kind}
+use Rattle.oc_model.specs.declared.value.Kind.TheVariants as kind
 use Rattle.oc_model.specs.declared.answer.Word.TheVariants as word
 use Rattle.oc_model.specs.declared.answer.Answer.{Answer}
 use Rattle.oc_model.specs.declared.answer.Answer.TheVariants as answer
 use Rattle.oc_model.specs.Maps.{Text, is_in}
 use Rattle.oc_model.specs.Schemas.{class_named}
-use Rattle.oc_model.specs.Stores.{Store}
+use Rattle.oc_model.specs.Stores.{Store as Objects}
 use Rattle.oc_model.specs.States.{State, start}
 use Rattle.oc_machine.specs.Reading.{Reading, nothing, refused, reads, reading}
-use Rattle.oc_machine.specs.Printing.{answer_text}
-use Rattle.oc_machine.specs.Machine.{Outcome, step}
+use Rattle.oc_machine.specs.Printing.{answer_text, counted}
+use Rattle.oc_machine.specs.Outcomes.{Outcome}
+use Rattle.oc_machine.specs.CommitLines.{committed}
+use Rattle.oc_machine.specs.Machine.{step}
 
 -- ---- the lines of a script
 
@@ -35,22 +43,40 @@ Built = State → Reading → Bool
 abbrev pub all_built : Built
 all_built m r = true
 
--- The lines that the program has by now. A class line is built where the class is new.
+-- a number or a text
+abbrev pub is_built_kind : Kind → Bool
+is_built_kind (kind.One base.I32) = true
+is_built_kind (kind.One base.Text) = true
+is_built_kind k = false
+
+-- null, a number or a text
+abbrev pub is_built_value : ValueText → Bool
+is_built_value (valued.One single.Null) = true
+is_built_value (valued.One (single.Int n)) = true
+is_built_value (valued.One (single.Text t)) = true
+is_built_value v = false
+
+-- The commands that the program has by now: a new class without a parent, with fields of the kinds i32 and text, an object of such values, and a query for all objects of a class.
+abbrev pub is_built_command : State → Command → Bool
+is_built_command m (Class name None ds) = is_none (class_named m.session.schema name) && list_all (λ d. is_built_kind d.kind) ds
+is_built_command m (Make class gs) = list_all (λ g. is_built_value g.value) gs
+is_built_command m (Query class None []) = true
+is_built_command m c = false
+
+-- The lines that the program has by now.
 unfoldable pub is_built : Built
-is_built m nothing = true
-is_built m (refused word.Syntax) = true
-is_built m (refused word.Long) = true
-is_built m (refused _) = false
-is_built m (reads (Class n ds)) = is_none (class_named m.session.schema n)
-is_built m (reads (Make c gs)) = true
-is_built m (reads (Query c)) = true
+is_built m (reads c) = is_built_command m c
+is_built m r = true
 
 -- ---- a line
 
 -- whether want of room may be what a command answers
 abbrev pub asks_room : Command → Bool
-asks_room (Make c gs) = true
-asks_room _ = false
+asks_room (Make class givens) = true
+asks_room (Store name depth) = true
+asks_room (Convert class field from) = true
+asks_room Commit = true
+asks_room c = false
 
 abbrev pub is_refusal : Answer → Bool
 is_refusal (answer.Refused w) = true
@@ -96,17 +122,54 @@ abbrev pub closing : Bool → Text
 closing full = if full then codes "error full\nabandoned\n" else codes "closed\n"
 
 -- the answers of a run over a store, without the closing
-abbrev pub answers : Built → Store → Text → List ℕ → List Answer
+abbrev pub answers : Built → Objects → Text → List ℕ → List Answer
 answers built s script F = answers_from built F 1 (start s) (lines_of script)
 
 -- all that a run over a store says
-abbrev pub text : Built → Store → Text → List ℕ → Text
+abbrev pub text : Built → Objects → Text → List ℕ → Text
 text built s script F = codes "ready\n" ++ flat_map answer_text (answers built s script F) ++ closing (closes_full F script)
 
 -- some line of that text is an error
-abbrev pub has_error : Built → Store → Text → List ℕ → Bool
+abbrev pub has_error : Built → Objects → Text → List ℕ → Bool
 has_error built s script F = list_any is_refusal (answers built s script F) || closes_full F script
 
--- the store that a run leaves, where the closing had room
-abbrev pub left_by : Built → Store → Text → List ℕ → Store
-left_by built s script F = (state_after built F 1 (start s) (lines_of script)).session
+-- ---- what a run commits
+
+-- the closing commits, where it has room
+abbrev pub closed : Bool → State → State
+closed full m = if full then m else committed m
+
+-- the committed store, if a step from one state to another made a commit
+abbrev pub commit_between : State → State → List Objects
+commit_between m n = if m.commits == n.commits then [] else n.committed ∷ []
+
+-- the stores that the lines from number i on commit, and the closing
+abbrev pub commits_from : Built → List ℕ → ℕ → State → List Text → List Objects
+commits_from built F i m [] = commit_between m (closed (is_in F i) m)
+commits_from built F i m (l ∷ ls) =
+    let r = line_step built (is_in F i) m l in commit_between m r.0 ++ commits_from built F (i + 1) r.0 ls
+
+-- The stores that a run commits, one after another: first the one that it begins with. The closing's is the last.
+abbrev pub committed_stores : Built → Objects → Text → List ℕ → List Objects
+committed_stores built s script F = s ∷ commits_from built F 1 (start s) (lines_of script)
+
+-- the store after this many commits of a run, if it makes so many
+abbrev pub store_after : Built → Objects → Text → List ℕ → ℕ → Option Objects
+store_after built s script F j = slice_get (committed_stores built s script F) j
+
+-- the store that a run leaves
+abbrev pub left_by : Built → Objects → Text → List ℕ → Objects
+left_by built s script F = (closed (closes_full F script) (state_after built F 1 (start s) (lines_of script))).committed
+
+-- ---- the summary of a run
+
+-- of an answer the lines that begin with `found`, `committed` or `error`
+abbrev pub summary_text : Answer → Text
+summary_text (answer.Found os) = counted (codes "found") (length os)
+summary_text (answer.Committed k) = answer_text (answer.Committed k)
+summary_text (answer.Refused w) = answer_text (answer.Refused w)
+summary_text a = []
+
+-- what a run says where the script is a generated one
+abbrev pub summary : Built → Objects → Text → List ℕ → Text
+summary built s script F = codes "ready\n" ++ flat_map summary_text (answers built s script F) ++ closing (closes_full F script)
