@@ -1,82 +1,100 @@
 -- The grammar of a line, from a command to its tokens: what `command_of` reads, said the other way.
-use Rattle.std.specs.Prelude.{◌≡◌, ◌≤◌, ℕ, false, List, [], ◌∷◌, ◌++◌, length, codes, ◌⊎◌, pos, neg_ℤ, Some}
-use Rattle.oc_model.specs.declared.value.Base.TheVariants as base
-use Rattle.oc_model.specs.declared.value.Kind.{Kind}
-use Rattle.oc_model.specs.declared.value.Kind.TheVariants as kind
-use Rattle.oc_model.specs.declared.command.Single.{Single}
-use Rattle.oc_model.specs.declared.command.Single.TheVariants as single
-use Rattle.oc_model.specs.declared.command.ValueText.{ValueText}
-use Rattle.oc_model.specs.declared.command.ValueText.TheVariants as valued
-use Rattle.oc_model.specs.declared.command.Given.{Given}
-use Rattle.oc_model.specs.declared.command.Decl.{Decl}
+use Rattle.std.specs.Prelude.{◌≡◌, ◌≤◌, ℕ, true, false, Bool, [], ◌∷◌, ◌++◌, length, fold, codes, Option, Some, None}
+use Rattle.oc_model.specs.declared.command.RunDepth.{RunDepth}
+use Rattle.oc_model.specs.declared.command.RunDepth.TheVariants as run_depth
+use Rattle.oc_model.specs.declared.command.NumberSetting.{NumberSetting}
+use Rattle.oc_model.specs.declared.command.NumberSetting.TheVariants as setting
+use Rattle.oc_model.specs.declared.command.FlagSetting.{FlagSetting}
+use Rattle.oc_model.specs.declared.command.FlagSetting.TheVariants as flag
+use Rattle.oc_model.specs.declared.command.SideText.{SideText}
+use Rattle.oc_model.specs.declared.command.SideText.TheVariants as side
 use Rattle.oc_model.specs.declared.command.Command.{Command}
-use Rattle.oc_model.specs.declared.command.Command.TheVariants.{Class, Make, Query}
+use Rattle.oc_model.specs.declared.command.Command.TheVariants.{Class, RenameClass, RenameField, Convert, Index, Unindex, ConfigRun, ConfigNumber, ConfigFlag, New, Make, Let, BindNumber, BindField, Forget, Names, Show, PeekName, PeekNumber, Store, Delete, Activate, Deactivate, Refresh, Purge, Query, Example, Commit, Rollback}
 use Rattle.oc_model.specs.Maps.{Text}
-use Rattle.oc_machine.specs.declared.token.Sign.TheVariants.{OpenBrace, CloseBrace, Colon, Comma}
-use Rattle.oc_machine.specs.declared.token.Token.{Token}
-use Rattle.oc_machine.specs.declared.token.Token.TheVariants.{Word as a_word, Nat, Minus, Text as a_text, Sign as a_sign}
+use Rattle.oc_machine.specs.declared.token.Sign.TheVariants.{Colon, Dot, Equal}
+use Rattle.oc_machine.specs.declared.token.Token.TheVariants.{Word as a_word, Nat, Num, Sign as a_sign}
 use Rattle.oc_machine.specs.Lexing.{tokens}
-use Rattle.oc_machine.specs.Reading.{is_reserved, says_nothing}
+use Rattle.oc_machine.specs.Reading.{says_nothing, open_behind}
+use Rattle.oc_machine.specs.GrammarValues.{Tokens, IsName, SpellsName, Optionally, InBraces, SpellsKind, SpellsDecl, SpellsValue, SpellsGiven}
+use Rattle.oc_machine.specs.GrammarExpressions.{SpellsExpr, SpellsCriteria}
 
-abbrev pub Tokens : Type 0
-Tokens = List Token
+-- ---- the words of settings and sides
 
--- these tokens spell this thing
-abbrev pub Spelling : Type 0 → Type 1
-Spelling A = A → Tokens → Type 0
+abbrev pub run_depth_word : RunDepth → Text
+run_depth_word run_depth.Activation = codes "activation"
+run_depth_word run_depth.Update = codes "update"
 
--- ---- lists
+abbrev pub number_word : NumberSetting → Text
+number_word setting.Minimum = codes "minimum"
+number_word setting.Maximum = codes "maximum"
+number_word setting.Update = codes "update"
 
--- the items, each behind a comma
-abbrev pub BehindCommas : {A : Type 0} → Spelling A → List A → Tokens → Type 0
-BehindCommas {A} Spells [] ts = ts ≡ []
-BehindCommas {A} Spells (x ∷ xs) ts = (us vs : Tokens) × (Spells x us × (BehindCommas Spells xs vs × (ts ≡ a_sign Comma ∷ (us ++ vs))))
+abbrev pub flag_word : FlagSetting → Text
+flag_word flag.CascadeActivate = codes "cascade_activate"
+flag_word flag.CascadeUpdate = codes "cascade_update"
+flag_word flag.CascadeDelete = codes "cascade_delete"
 
--- the items, with commas between
-abbrev pub Listed : {A : Type 0} → Spelling A → List A → Tokens → Type 0
-Listed {A} Spells [] ts = ts ≡ []
-Listed {A} Spells (x ∷ xs) ts = (us vs : Tokens) × (Spells x us × (BehindCommas Spells xs vs × (ts ≡ us ++ vs)))
+abbrev pub switch_word : Bool → Text
+switch_word true = codes "on"
+switch_word false = codes "off"
 
--- the items in braces, with commas between
-abbrev pub InBraces : {A : Type 0} → Spelling A → List A → Tokens → Type 0
-InBraces {A} Spells xs ts = (us : Tokens) × (Listed Spells xs us × (ts ≡ a_sign OpenBrace ∷ (us ++ a_sign CloseBrace ∷ [])))
-
--- ---- the parts of a line
-
-abbrev pub IsName : Text → Type 0
-IsName n = is_reserved n ≡ false
-
-abbrev pub SpellsKind : Kind → Tokens → Type 0
-SpellsKind (kind.One base.I32) ts = ts ≡ a_word (codes "i32") ∷ []
-SpellsKind (kind.One base.Text) ts = ts ≡ a_word (codes "text") ∷ []
-SpellsKind _ ts = ⊥
-
-abbrev pub SpellsDecl : Decl → Tokens → Type 0
-SpellsDecl d ts = IsName d.name × ((us : Tokens) × (SpellsKind d.kind us × (ts ≡ a_word d.name ∷ a_sign Colon ∷ us)))
-
--- A number below 0 stands behind `-`. So may 0.
-abbrev pub SpellsSingle : Single → Tokens → Type 0
-SpellsSingle single.Null ts = ts ≡ a_word (codes "null") ∷ []
-SpellsSingle (single.Int n) ts = (k : ℕ) × (((n ≡ pos k) × (ts ≡ Nat k ∷ [])) ⊎ ((n ≡ neg_ℤ (pos k)) × (ts ≡ Minus k ∷ [])))
-SpellsSingle (single.Text t) ts = ts ≡ a_text t ∷ []
-
-abbrev pub SpellsValue : ValueText → Tokens → Type 0
-SpellsValue (valued.One s) ts = SpellsSingle s ts
-
-abbrev pub SpellsGiven : Given → Tokens → Type 0
-SpellsGiven g ts = IsName g.name × ((us : Tokens) × (SpellsValue g.value us × (ts ≡ a_word g.name ∷ a_sign Colon ∷ us)))
+abbrev pub side_word : SideText → Text
+side_word side.Committed = codes "committed"
+side_word side.Session = codes "session"
 
 -- ---- lines
 
-abbrev pub Spells : Command → Tokens → Type 0
-Spells (Class n ds) ts = IsName n × ((us : Tokens) × (InBraces SpellsDecl ds us × (ts ≡ a_word (codes "class") ∷ a_word n ∷ us)))
-Spells (Make c gs) ts = IsName c × ((us : Tokens) × (InBraces SpellsGiven gs us × (ts ≡ a_word (codes "make") ∷ a_word c ∷ us)))
-Spells (Query c) ts = IsName c × (ts ≡ a_word (codes "query") ∷ a_word c ∷ [])
+-- `NAME . NAME`, and the tokens behind it
+abbrev pub field_tokens : Text → Text → Tokens → Tokens
+field_tokens n f ts = a_word n ∷ a_sign Dot ∷ a_word f ∷ ts
 
--- The line isn't too long, isn't quiet, and falls into tokens that spell the command.
+-- a number, or nothing
+abbrev pub depth_tokens : Option ℕ → Tokens
+depth_tokens None = []
+depth_tokens (Some d) = Nat d ∷ []
+
+abbrev pub Spells : Command → Tokens → Type 0
+Spells (Class n parent ds) ts =
+    IsName n × ((us vs : Tokens) × (Optionally (a_sign Colon) SpellsName parent us × (InBraces SpellsDecl ds vs × (ts ≡ a_word (codes "class") ∷ a_word n ∷ (us ++ vs)))))
+Spells (RenameClass c n) ts = IsName c × (IsName n × (ts ≡ a_word (codes "rename") ∷ a_word c ∷ a_word (codes "to") ∷ a_word n ∷ []))
+Spells (RenameField c f n) ts = IsName c × (IsName f × (IsName n × (ts ≡ a_word (codes "rename") ∷ field_tokens c f (a_word (codes "to") ∷ a_word n ∷ []))))
+Spells (Convert c f k) ts = IsName c × (IsName f × ((us : Tokens) × (SpellsKind k us × (ts ≡ a_word (codes "convert") ∷ field_tokens c f (a_word (codes "from") ∷ us)))))
+Spells (Index c f) ts = IsName c × (IsName f × (ts ≡ a_word (codes "index") ∷ field_tokens c f []))
+Spells (Unindex c f) ts = IsName c × (IsName f × (ts ≡ a_word (codes "unindex") ∷ field_tokens c f []))
+Spells (ConfigRun which k) ts = ts ≡ a_word (codes "config") ∷ a_word (run_depth_word which) ∷ Nat k ∷ []
+Spells (ConfigNumber c s k) ts = IsName c × (ts ≡ a_word (codes "config") ∷ field_tokens c (number_word s) (Nat k ∷ []))
+Spells (ConfigFlag c s b) ts = IsName c × (ts ≡ a_word (codes "config") ∷ field_tokens c (flag_word s) (a_word (switch_word b) ∷ []))
+Spells (New n c gs) ts = IsName n × (IsName c × ((us : Tokens) × (InBraces SpellsGiven gs us × (ts ≡ a_word (codes "new") ∷ a_word n ∷ a_word c ∷ us))))
+Spells (Make c gs) ts = IsName c × ((us : Tokens) × (InBraces SpellsGiven gs us × (ts ≡ a_word (codes "make") ∷ a_word c ∷ us)))
+Spells (Let n f v) ts = IsName n × (IsName f × ((us : Tokens) × (SpellsValue v us × (ts ≡ a_word (codes "let") ∷ field_tokens n f (a_sign Equal ∷ us)))))
+Spells (BindNumber n k) ts = IsName n × (ts ≡ a_word (codes "bind") ∷ a_word n ∷ Num k ∷ [])
+Spells (BindField n s f) ts = IsName n × (IsName s × (IsName f × (ts ≡ a_word (codes "bind") ∷ a_word n ∷ field_tokens s f [])))
+Spells (Forget n) ts = IsName n × (ts ≡ a_word (codes "forget") ∷ a_word n ∷ [])
+Spells Names ts = ts ≡ a_word (codes "names") ∷ []
+Spells (Show n) ts = IsName n × (ts ≡ a_word (codes "show") ∷ a_word n ∷ [])
+Spells (PeekName n d s) ts = IsName n × (ts ≡ a_word (codes "peek") ∷ a_word n ∷ Nat d ∷ a_word (side_word s) ∷ [])
+Spells (PeekNumber k d s) ts = ts ≡ a_word (codes "peek") ∷ Num k ∷ Nat d ∷ a_word (side_word s) ∷ []
+Spells (Store n d) ts = IsName n × (ts ≡ a_word (codes "store") ∷ a_word n ∷ depth_tokens d)
+Spells (Delete n) ts = IsName n × (ts ≡ a_word (codes "delete") ∷ a_word n ∷ [])
+Spells (Activate n d) ts = IsName n × (ts ≡ a_word (codes "activate") ∷ a_word n ∷ depth_tokens d)
+Spells (Deactivate n d) ts = IsName n × (ts ≡ a_word (codes "deactivate") ∷ a_word n ∷ Nat d ∷ [])
+Spells (Refresh n d) ts = IsName n × (ts ≡ a_word (codes "refresh") ∷ a_word n ∷ Nat d ∷ [])
+Spells (Purge n) ts = IsName n × (ts ≡ a_word (codes "purge") ∷ a_word n ∷ [])
+Spells (Query c filter criteria) ts =
+    IsName c × ((us vs : Tokens) × (Optionally (a_word (codes "where")) SpellsExpr filter us × (SpellsCriteria criteria vs × (ts ≡ a_word (codes "query") ∷ a_word c ∷ (us ++ vs)))))
+Spells (Example n) ts = IsName n × (ts ≡ a_word (codes "example") ∷ a_word n ∷ [])
+Spells Commit ts = ts ≡ a_word (codes "commit") ∷ []
+Spells Rollback ts = ts ≡ a_word (codes "rollback") ∷ []
+
+-- no more than 64 parentheses are open behind any first part of the tokens
+abbrev pub IsShallow : Tokens → Type 0
+IsShallow ts = (us vs : Tokens) → ts ≡ us ++ vs → fold open_behind 0 us ≤ 64
+
+-- The line isn't too long, isn't quiet, and falls into tokens that spell the command, without too many parentheses.
 pub record SpellsLine (c : Command) (line : Text) : Type 0 where
   pub short : length line ≤ 65535
   pub speaks : says_nothing line ≡ false
   pub among : Tokens
   pub falls : tokens line ≡ Some among
+  pub shallow : IsShallow among
   pub spells : Spells c among

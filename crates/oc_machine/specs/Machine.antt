@@ -94,6 +94,8 @@ abbrev pub value_of : Kind → ValueText → Value
 value_of k (valued.One single.Null) = null_of k
 value_of k (valued.One (single.Int n)) = value.One (atom.Int n)
 value_of k (valued.One (single.Text t)) = value.One (atom.Text (Some t))
+value_of k (valued.One (single.Bool b)) = value.One (atom.Bool b)
+value_of k _ = null_of k
 
 -- Field by field: the class hasn't the field, the field is given twice, the value doesn't fit.
 abbrev pub given_entries : Schema → ℕ → List Text → List Entry → List Given → Checked (List Entry)
@@ -168,6 +170,7 @@ query_step m class =
 
 unfoldable pub step : State → Command → Outcome
 unfolding class_step make_step query_step
-step m (Class n ds) = settled m (class_step m n ds)
+step m (Class n None ds) = settled m (class_step m n ds)
 step m (Make c gs) = settled m (make_step m c gs)
-step m (Query c) = settled m (query_step m c)
+step m (Query c None []) = settled m (query_step m c)
+step m _ = (m, answer.Refused word.Syntax)

@@ -41,9 +41,10 @@ is_built m nothing = true
 is_built m (refused word.Syntax) = true
 is_built m (refused word.Long) = true
 is_built m (refused _) = false
-is_built m (reads (Class n ds)) = is_none (class_named m.session.schema n)
+is_built m (reads (Class n None ds)) = is_none (class_named m.session.schema n)
 is_built m (reads (Make c gs)) = true
-is_built m (reads (Query c)) = true
+is_built m (reads (Query c None [])) = true
+is_built m (reads _) = false
 
 -- ---- a line
 

@@ -8,7 +8,8 @@ ghost use Rattle.oc_model.specs.SchemaSteps.{declared};
 ghost use Rattle.oc_model.specs.declared.command.Command.{Command};
 ghost use Rattle.oc_model.specs.declared.command.Decl.{Decl};
 ghost use Rattle.oc_machine.specs.Reading.{reading, reads, command_of};
-ghost use Rattle.oc_machine.specs.Grammar.{Tokens, Spells, SpellsLine};
+ghost use Rattle.oc_machine.specs.Grammar.{Spells, SpellsLine};
+ghost use Rattle.oc_machine.specs.GrammarValues.{Tokens};
 ghost use Rattle.oc_machine.specs.Machine.{declare};
 
 use oc_model::laws_schemas::new_class_limits;

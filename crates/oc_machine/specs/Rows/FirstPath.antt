@@ -27,7 +27,7 @@ field_by_field = refl
 
 -- A field name that is given twice is refused. So is, as no command, a class that is there, and every line that isn't built.
 not_built : said (codes "class A { n: i32, n: text }\nclass A { }\nclass A { }\nclass B : A { }\nclass C { r: ref }\ncommit\nmake A { n: true }\nquery A where n = 1\nquery A\n")
-    ≡ codes "ready\nerror exists\nok\nerror syntax\nerror syntax\nerror syntax\nerror syntax\nerror syntax\nerror syntax\nfound 0\nclosed\n"
+    ≡ codes "ready\nerror exists\nok\nerror syntax\nerror syntax\nok\nerror syntax\nerror field\nerror syntax\nfound 0\nclosed\n"
 unfolding rows
 not_built = refl
 
