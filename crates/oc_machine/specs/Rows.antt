@@ -16,6 +16,8 @@ mod Naming
 mod Refactoring
 mod Asking
 mod ByExample
+mod Readings
+mod Refusals
 
 -- what a run computes with: a row names this alone
 unfoldable pub rows : Unit {0}

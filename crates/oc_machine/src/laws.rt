@@ -1,17 +1,11 @@
 //! Laws of the definitions: each is a clause of a function that does nothing.
 
-ghost use Rattle.std.specs.Prelude.{◌≡◌, true, List, Some, None};
+ghost use Rattle.std.specs.Prelude.{◌≡◌, Some};
 ghost use Rattle.oc_model.specs.Maps.{Text};
-ghost use Rattle.oc_model.specs.Schemas.{Schema, class_named};
-ghost use Rattle.oc_model.specs.SchemaRules.{has_earlier_parents, is_within_limits};
-ghost use Rattle.oc_model.specs.SchemaSteps.{declared};
 ghost use Rattle.oc_model.specs.declared.command.Command.{Command};
-ghost use Rattle.oc_model.specs.declared.command.Decl.{Decl};
 ghost use Rattle.oc_machine.specs.Reading.{reading, reads, command_of};
-ghost use Rattle.oc_machine.specs.Grammar.{Tokens, Spells, SpellsLine};
-ghost use Rattle.oc_machine.specs.Machine.{declare};
-
-use oc_model::laws_schemas::new_class_limits;
+ghost use Rattle.oc_machine.specs.Grammar.{Spells, SpellsLine};
+ghost use Rattle.oc_machine.specs.GrammarValues.{Tokens};
 
 /// A line reads as a command exactly where it spells it, and it spells one command at most.
 pub fn grammar_is_reading()
@@ -21,10 +15,3 @@ pub fn grammar_is_reading()
     ensures line_is_spelled { (c : Command) (line : Text) → reading line ≡ reads c → SpellsLine c line }
     ensures one_reading { (c d : Command) (line : Text) → SpellsLine c line → SpellsLine d line → c ≡ d }
 {}
-
-/// For a class that is new and has no parent the step of every class is that of new classes.
-pub fn declared_is_declare()
-    ensures { (s : Schema) (name : Text) (ds : List Decl) → has_earlier_parents s ≡ true → is_within_limits s ≡ true → class_named s name ≡ None → declared s name None ds ≡ declare s name ds }
-{
-    new_class_limits();
-}
