@@ -70,9 +70,10 @@ arrays : run (
     codes "ok" ∷
     codes "found 0" ∷
     codes "ok" ∷
-    codes "error stub" ∷
+    codes "found 0" ∷
     codes "stored ~4 1" ∷
-    codes "error stub" ∷
+    codes "~4 R { xs: null, ts: null, rs: [~1, ~3], n: 0 }" ∷
+    codes "found 1" ∷
     codes "closed" ∷
     []
   )
