@@ -16,6 +16,9 @@ mod Naming
 mod Refactoring
 mod Asking
 mod ByExample
+mod Limits
+mod Running
+mod Spending
 mod Readings
 mod Refusals
 
@@ -48,3 +51,7 @@ run script = run_over (empty_store 1) script
 -- what a second run says over the file that a first one left
 abbrev pub then : List Text → List Text → Text
 then first second = run_over (left_by all_built (empty_store 1) (lines first) []) second
+
+-- what the whole machine says of a script over an empty file
+abbrev pub said_by_whole : Text → Text
+said_by_whole script = text all_built (empty_store 1) script []

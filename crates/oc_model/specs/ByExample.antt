@@ -110,21 +110,20 @@ is_awake_node m (node.Number n) = true
 abbrev pub reachable : State → Node → Table
 reachable m x = best (show_walk m) x 1
 
--- references lead from the node back to it
-abbrev pub is_on_cycle : State → Node → Bool
-is_on_cycle m x = list_any (λ y. nat_lt 0 (budget (reachable m y) x)) (memory_next m x)
-
 abbrev pub is_empty : Table → Bool
 is_empty [] = true
 is_empty (e ∷ t) = false
+
+-- A path with as many references as there are live objects comes to one of them twice.
+abbrev pub leads_to_cycle : State → ℕ → Bool
+leads_to_cycle m h = not (is_empty (paths m h (length m.live)))
 
 -- The query of a live object's example. It is refused where something reachable is inactive, where a cycle is reachable, where a path has more than 64 references, and where more than 65,536 values ask something, those of a shared object counted on each path.
 unfoldable pub example : State → ℕ → Checked Expr
 unfolding named_in fields_of best show_walk
 example m h =
-    let reached = reachable m (node.Live h) in
-    unless (list_all (λ e. is_awake_node m e.0) reached) word.Stub >>
-    unless (not (list_any (λ e. is_on_cycle m e.0) reached)) word.Cycle >>
+    unless (list_all (λ e. is_awake_node m e.0) (reachable m (node.Live h))) word.Stub >>
+    unless (not (leads_to_cycle m h)) word.Cycle >>
     unless (is_empty (paths m h 65)) word.Deep >>
     unless (not (nat_lt 65536 (count_within m 65 (paths m h 0)))) word.Size >>
     Ok (example_within 65 m h)
