@@ -14,3 +14,5 @@ mod Lengths
 mod NewClass
 mod PastFields
 mod SchemaLaws
+mod Nodes
+mod StateWalks

@@ -5,6 +5,10 @@ ghost use Rattle.std.specs.FinMap.{find};
 ghost use Rattle.oc_model.specs.declared.reach.ClassSettings.{ClassSettings};
 ghost use Rattle.oc_model.specs.declared.reach.Node.{Node};
 ghost use Rattle.oc_model.specs.Lists.{IsOneOf};
+ghost use Rattle.oc_model.specs.Stores.{Store};
+ghost use Rattle.oc_model.specs.States.{State};
+ghost use Rattle.oc_model.specs.StateRules.{IsState};
+ghost use Rattle.oc_model.specs.StateWalks.{activate_walk, deactivate_walk, refresh_walk, peek_walk, store_walk, delete_walk, show_walk};
 ghost use Rattle.oc_model.specs.Walks.{Walk, IsLawful, IsBest, Reached, Table, at_least_if, best, clamped, node_cmp, plain_walk};
 
 /// What is computed round by round is what the paths say: the reached nodes with their greatest budgets. There is one such table, and it has the reached nodes and no others.
@@ -25,4 +29,15 @@ pub fn budget_rules_are_lawful()
     ensures at_least_rises { (b : Bool) (j k : ℕ) → j ≤ k → at_least_if b j ≤ at_least_if b k }
     ensures plain { (nodes : List Node) (next : Node → List Node)
         → ((x y : Node) → IsOneOf y (next x) → IsOneOf y nodes) → IsLawful (plain_walk nodes next) }
+{}
+
+/// Each of the seven walks is lawful in every state that keeps its rules, and a peek at any store.
+pub fn state_walks_are_lawful()
+    ensures activate { (m : State) → IsState m → IsLawful (activate_walk m) }
+    ensures deactivate { (m : State) → IsState m → IsLawful (deactivate_walk m) }
+    ensures refresh { (m : State) → IsState m → IsLawful (refresh_walk m) }
+    ensures peek { (s : Store) → IsLawful (peek_walk s) }
+    ensures store { (m : State) → IsState m → IsLawful (store_walk m) }
+    ensures delete { (m : State) → IsState m → IsLawful (delete_walk m) }
+    ensures show { (m : State) → IsState m → IsLawful (show_walk m) }
 {}
