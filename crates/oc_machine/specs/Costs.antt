@@ -6,8 +6,6 @@ use Rattle.oc_model.specs.declared.value.Value.{Value}
 use Rattle.oc_model.specs.declared.value.Rec.{Rec}
 use Rattle.oc_model.specs.declared.schema.FieldDef.{FieldDef}
 use Rattle.oc_model.specs.declared.query.Expr.{Expr, Row_of-Expr, end_of-Expr, more_of-Expr, Not', And', Or', Inside', All, Test, Null, Is}
-use Rattle.oc_model.specs.declared.query.Expr.TheBlock.{hidden-the_row-Expr-0, hidden-the_row-Expr-1}
-use denote.Hole.Carrier.{hidden}
 use Rattle.oc_model.specs.declared.reach.Node.{Node}
 use Rattle.oc_model.specs.declared.reach.Node.TheVariants as node
 use Rattle.oc_model.specs.declared.command.Given.{Given}
@@ -32,6 +30,7 @@ use Rattle.oc_machine.specs.Values.{checked}
 use Rattle.oc_machine.specs.ObjectLines.{made}
 use Rattle.oc_machine.specs.WalkLines.{store_depth, any, is_inactive, side_of, peeked_numbers}
 use Rattle.oc_machine.specs.QueryLines.{Asked, asked_by_query, asked_by_example}
+use Rattle.oc_model.specs.Opened.{expr_rows}
 
 -- ---- the records of a query
 
@@ -48,7 +47,7 @@ inner_objects s c path n = filter (is_of s c) (flat_map refs_in_atom (values s p
 
 -- The objects from which a step starts when every test of an expression is tried at an object. What is behind a `Boxed` or in `Items` is a row, of one part or of many.
 unfoldable mutual
-  unfolding starts values is_sub hidden-the_row-Expr-0 hidden-the_row-Expr-1 hidden
+  unfolding starts values is_sub expr_rows
 
   pub tried : Store → Expr → ℕ → List ℕ
   tried s All n = []

@@ -1,8 +1,8 @@
 -- The generated script: so many pilots, cars and readings, and queries over them.
 use Rattle.std.specs.Prelude.{ℕ, zero, suc, ◌-◌, ◌*◌, ◌%◌, ◌==◌, List, [], ◌∷◌, ◌++◌, flat_map, codes, decimal, if◌then◌else◌}
-use Rattle.std.specs.Fmt.{digits}
 use Rattle.oc_model.specs.Maps.{Text}
 use Rattle.oc_machine.specs.Printing.{line}
+use Rattle.oc_model.specs.Opened.{decimals}
 
 -- 1 to n
 abbrev pub up_to : ℕ → List ℕ
@@ -45,5 +45,5 @@ last_lines =
 
 -- the script of n objects of each class
 unfoldable pub generated : ℕ → Text
-unfolding digits
+unfolding decimals
 generated n = first_lines ++ flat_map lines_of_one (up_to n) ++ last_lines

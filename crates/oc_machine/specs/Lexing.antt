@@ -2,14 +2,14 @@
 use Rattle.std.specs.Prelude.{ℕ, zero, suc, ◌+◌, ◌-◌, ◌*◌, ◌^◌, Bool, true, false, not, ◌&&◌, ◌||◌, ◌==◌, nat_lt, nat_le, List, [], ◌∷◌, take, Option, Some, None, if◌then◌else◌}
 use Rattle.std.specs.List.{prefix_len}
 use Rattle.std.specs.Char.{is_ascii_digit, is_ascii_alphabetic, is_ascii_alphanumeric}
-use Rattle.std.specs.Str.{is_utf8, chars}
-use lib.Utf8.{encode}
+use Rattle.std.specs.Str.{is_utf8}
 use Rattle.oc_model.specs.Maps.{Text}
 pub use Rattle.oc_model.specs.Conversions.{number}
 use Rattle.oc_machine.specs.declared.token.Sign.{Sign}
 use Rattle.oc_machine.specs.declared.token.Sign.TheVariants.{OpenBrace, CloseBrace, OpenParenthesis, CloseParenthesis, OpenBracket, CloseBracket, Colon, Comma, Dot, Equal, Less, AtMost, Greater, AtLeast}
 use Rattle.oc_machine.specs.declared.token.Token.{Token}
 use Rattle.oc_machine.specs.declared.token.Token.TheVariants as a
+use Rattle.oc_model.specs.Opened.{utf8}
 
 infixl 10 ◌>>=◌
 -- what follows, of what was read, if anything was
@@ -142,5 +142,5 @@ tokens_after zero (c ∷ t) =
 
 -- The tokens of a line, if it falls into tokens. A line that isn't UTF-8 doesn't: only a text has bytes from 128 on.
 unfoldable pub tokens : Text → Option (List Token)
-unfolding token piece is_utf8 chars encode
+unfolding token piece utf8
 tokens t = is_utf8 t >> tokens_after 0 t

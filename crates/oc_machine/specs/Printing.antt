@@ -1,6 +1,6 @@
 -- The lines that an answer says.
 use Rattle.std.specs.Prelude.{ℕ, ◌+◌, ◌/◌, ◌%◌, true, false, ◌||◌, ◌==◌, nat_lt, List, [], ◌∷◌, ◌++◌, map, flat_map, codes, decimal, Some, None, if◌then◌else◌, length}
-use Rattle.std.specs.Fmt.{signed_decimal, digits}
+use Rattle.std.specs.Fmt.{signed_decimal}
 use Rattle.oc_model.specs.declared.answer.Mark.{Mark}
 use Rattle.oc_model.specs.declared.answer.Mark.TheVariants as mark
 use Rattle.oc_model.specs.declared.answer.ShownAtom.{ShownAtom}
@@ -17,6 +17,7 @@ use Rattle.oc_model.specs.declared.answer.Word.TheVariants as word
 use Rattle.oc_model.specs.declared.answer.Answer.{Answer}
 use Rattle.oc_model.specs.declared.answer.Answer.TheVariants as answer
 use Rattle.oc_model.specs.Maps.{Text}
+use Rattle.oc_model.specs.Opened.{decimals}
 
 -- ---- values
 
@@ -75,7 +76,7 @@ fields_text (shown.Fields fs) = codes " {" ++ joined (codes ",") (map field_text
 
 -- the mark, the class, and the fields in braces
 unfoldable pub object_line : ObjectLine → Text
-unfolding digits
+unfolding decimals
 object_line o = line (mark_text o.mark ++ codes " " ++ o.class ++ fields_text o.fields)
 
 abbrev pub word_text : Word → Text
@@ -104,7 +105,7 @@ state_text n = elim n.mark [
 ]
 
 unfoldable pub name_line : NameLine → Text
-unfolding digits
+unfolding decimals
 name_line n = line (n.name ++ codes " " ++ mark_text n.mark ++ codes " " ++ state_text n)
 
 -- a word and a number behind it
@@ -113,7 +114,7 @@ counted word n = line (word ++ codes " " ++ decimal n)
 
 -- the lines that an answer says
 unfoldable pub answer_text : Answer → Text
-unfolding digits object_line name_line
+unfolding decimals object_line name_line
 answer_text answer.Done = line (codes "ok")
 answer_text (answer.Stored n k) = line (codes "stored ~" ++ decimal n ++ codes " " ++ decimal k)
 answer_text (answer.Deleted k) = counted (codes "deleted") k

@@ -15,8 +15,6 @@ use Rattle.oc_model.specs.declared.command.CompareOp.TheVariants as compare
 use Rattle.oc_model.specs.declared.command.TextOp.{TextOp}
 use Rattle.oc_model.specs.declared.command.TextOp.TheVariants as text
 use Rattle.oc_model.specs.declared.command.ExprText.{ExprText, Row_of-ExprText, end_of-ExprText, more_of-ExprText, Not', And', Or', Compare, Match, IsName, IsNumber, Example}
-use Rattle.oc_model.specs.declared.command.ExprText.TheBlock.{hidden-the_row-ExprText-0, hidden-the_row-ExprText-1}
-use denote.Hole.Carrier.{hidden}
 use Rattle.oc_model.specs.declared.command.CritText.{CritText}
 use Rattle.oc_model.specs.declared.answer.Word.TheVariants as word
 use Rattle.oc_model.specs.declared.answer.Answer.TheVariants as answer
@@ -29,6 +27,7 @@ use Rattle.oc_model.specs.States.{State}
 use Rattle.oc_machine.specs.Outcomes.{Outcome, Checked, ◌>>=◌, ◌>>◌, unless, or_refuse}
 use Rattle.oc_machine.specs.Memory.{live_named}
 use Rattle.oc_machine.specs.Showing.{stored_line}
+use Rattle.oc_model.specs.Opened.{expr_text_rows}
 
 -- ---- fields
 
@@ -78,7 +77,7 @@ example_named m name = live_named m name >>= λ o. example m o.0 >>= λ e. Ok ((
 
 -- What an expression asks for, or its first refusal from the left to the right. What is behind a `Boxed` or in `Items` is a row, of one part or of many.
 unfoldable mutual
-  unfolding is_field_below example hidden-the_row-ExprText-0 hidden-the_row-ExprText-1 hidden
+  unfolding is_field_below example expr_text_rows
 
   pub resolved : State → ℕ → ExprText → Checked Expr
   resolved m c (Not' p e) = resolved_row m c e >>= λ es. Ok (expr.Not (expr.And es))

@@ -10,14 +10,13 @@ use Rattle.oc_model.specs.declared.schema.FieldDef.{FieldDef}
 use Rattle.oc_model.specs.declared.query.Op.{Op}
 use Rattle.oc_model.specs.declared.query.Op.TheVariants as op
 use Rattle.oc_model.specs.declared.query.Expr.{Expr, Row_of-Expr, end_of-Expr, more_of-Expr, And', Test, Is}
-use Rattle.oc_model.specs.declared.query.Expr.TheBlock.{hidden-the_row-Expr-0, hidden-the_row-Expr-1}
-use denote.Hole.Carrier.{hidden}
 use Rattle.oc_model.specs.Maps.{keys, Text, is_in}
 use Rattle.oc_model.specs.Orders.{is_null}
 use Rattle.oc_model.specs.Kinds.{is_array}
 use Rattle.oc_model.specs.Schemas.{Schema, fields_of, field_named, is_sub}
 use Rattle.oc_model.specs.Stores.{Store, value_in}
 use Rattle.oc_model.specs.Queries.{passes, ref_meets, is_of}
+use Rattle.oc_model.specs.Opened.{expr_rows}
 
 -- ---- what an index holds
 
@@ -44,7 +43,7 @@ pub record Lookup : Type 0 where
 
 -- The parts of the expression that stand under `and` alone. What is behind a `Boxed` or in `Items` is a row, of one part or of many.
 unfoldable mutual
-  unfolding hidden-the_row-Expr-0 hidden-the_row-Expr-1 hidden
+  unfolding expr_rows
 
   pub conjuncts : Expr → List Expr
   conjuncts (And' p es) = all_conjuncts es

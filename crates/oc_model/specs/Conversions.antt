@@ -2,7 +2,7 @@
 use Rattle.std.specs.Prelude.{ℕ, zero, suc, ◌+◌, ◌-◌, ◌*◌, Bool, true, false, ◌&&◌, ◌==◌, nat_le, ℤ, pos, neg_ℤ, List, [], ◌∷◌, fold, codes, length, Option, Some, None, option_map, if◌then◌else◌}
 use Rattle.std.specs.List.{list_all}
 use Rattle.std.specs.Char.{is_ascii_digit}
-use Rattle.std.specs.Fmt.{signed_decimal, digits}
+use Rattle.std.specs.Fmt.{signed_decimal}
 use Rattle.std.specs.Option.{option_zip, option_and_then}
 use Rattle.oc_model.specs.declared.value.Base.{Base}
 use Rattle.oc_model.specs.declared.value.Base.TheVariants as base
@@ -14,6 +14,7 @@ use Rattle.oc_model.specs.declared.value.Value.{Value}
 use Rattle.oc_model.specs.declared.value.Value.TheVariants as value
 use Rattle.oc_model.specs.Maps.{Text, same}
 use Rattle.oc_model.specs.Values.{fits_base}
+use Rattle.oc_model.specs.Opened.{decimals}
 
 -- ---- texts and what they spell
 
@@ -105,7 +106,7 @@ converted_atoms b (a ∷ rest) = option_map (λ p. p.0 ∷ p.1) (option_zip (con
 
 -- A value of the first kind as one of the second, if there is one. Single values become single values and arrays become arrays; the null array stays.
 unfoldable pub converted : Kind → Kind → Value → Option Value
-unfolding digits
+unfolding decimals
 converted (kind.One from) (kind.One to) (value.One a) = option_map value.One (converted_atom to a)
 converted (kind.Many from) (kind.Many to) (value.Many None) = Some (value.Many None)
 converted (kind.Many from) (kind.Many to) (value.Many (Some items)) = option_map (λ all. value.Many (Some all)) (converted_atoms to items)

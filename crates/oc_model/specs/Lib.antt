@@ -1,3 +1,4 @@
+pub mod Opened
 pub mod Maps
 pub mod Values
 pub mod Orders

@@ -12,8 +12,6 @@ use Rattle.oc_model.specs.declared.value.Rec.{Rec}
 use Rattle.oc_model.specs.declared.query.Op.{Op}
 use Rattle.oc_model.specs.declared.query.Op.TheVariants as op
 use Rattle.oc_model.specs.declared.query.Expr.{Expr, Row_of-Expr, end_of-Expr, more_of-Expr, Not', And', Or', Inside', All, Test, Null, Is}
-use Rattle.oc_model.specs.declared.query.Expr.TheBlock.{hidden-the_row-Expr-0, hidden-the_row-Expr-1}
-use denote.Hole.Carrier.{hidden}
 use Rattle.oc_model.specs.declared.query.Criterion.{Criterion}
 use Rattle.oc_model.specs.Maps.{at, keys, Text}
 use Rattle.oc_model.specs.Lists.{sorted}
@@ -21,6 +19,7 @@ use Rattle.oc_model.specs.Orders.{compare, rank, is_null}
 use Rattle.oc_model.specs.References.{refs_in}
 use Rattle.oc_model.specs.Schemas.{field_named, is_sub}
 use Rattle.oc_model.specs.Stores.{Store, class_of, value_in}
+use Rattle.oc_model.specs.Opened.{expr_rows}
 
 -- ---- the values of a path
 
@@ -118,7 +117,7 @@ is_of s c n = unwrap_or (option_map (λ d. is_sub s.schema d c) (class_of s n)) 
 
 -- The object meets the expression. What is behind a `Boxed` or in `Items` is a row, of one part or of many.
 unfoldable mutual
-  unfolding values is_sub hidden-the_row-Expr-0 hidden-the_row-Expr-1 hidden
+  unfolding values is_sub expr_rows
 
   pub meets : Store → Expr → ℕ → Bool
   meets s All n = true
