@@ -10,6 +10,7 @@ pub mod SchemaSteps
 pub mod SchemaEquality
 pub mod Stores
 pub mod Spelling
+pub mod StoreRules
 pub mod States
 pub mod Lists
 pub mod References
