@@ -10,7 +10,9 @@ pub mod Parts
 pub mod MapLaws
 mod Conversions
 mod Decimals
+mod Fronts
 mod Lengths
 mod NewClass
 mod PastFields
 mod SchemaLaws
+mod Told
