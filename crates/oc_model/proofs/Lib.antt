@@ -8,9 +8,12 @@ pub mod Answering
 pub mod Meeting
 pub mod Parts
 pub mod MapLaws
+mod Candidates
 mod Conversions
 mod Decimals
+mod Fitting
 mod Fronts
+mod Inherited
 mod Lengths
 mod NewClass
 mod PastFields
