@@ -1,9 +1,11 @@
 -- Elements of lists, and tests of all elements.
-use Rattle.std.proofs.Common.{◌≡◌, Bool, true, false, ◌&&◌, List, [], ◌∷◌, ◌++◌, map, flat_map, ◌⊎◌, inl, inr, refl, sym, ap, ◌∙◌, subst, true≢false}
-use Rattle.std.specs.List.{list_all}
+use Rattle.std.proofs.Common.{◌≡◌, ℕ, Bool, true, false, cond, ◌&&◌, ◌||◌, List, [], ◌∷◌, ◌++◌, Some, ◌+◌, map, filter, flat_map, ◌⊎◌, inl, inr, refl, sym, ap, ◌∙◌, subst, true≢false, arith}
+use Rattle.std.specs.List.{list_all, list_any, find, enumerate_from}
+use Rattle.std.proofs.lemmas.Bool.Decides.{nat_tests}
 use Rattle.oc_model.specs.Lists.{IsOneOf}
+use Rattle.oc_model.specs.Maps.{is_in}
 
-in_append : {X : Type 0} (x : X) (xs ys : List X) → IsOneOf x (xs ++ ys) → IsOneOf x xs ⊎ IsOneOf x ys
+pub in_append : {X : Type 0} (x : X) (xs ys : List X) → IsOneOf x (xs ++ ys) → IsOneOf x xs ⊎ IsOneOf x ys
 in_append x [] ys h = inr h
 in_append x (y ∷ xs) ys h = elim h as (λ _. IsOneOf x (y ∷ xs) ⊎ IsOneOf x ys) [
   | inl e ↦ inl (inl e)
@@ -62,3 +64,56 @@ some_fails p (y ∷ xs) h =
       | true ↦ λ e h. let r = some_fails p xs h in (r.0, inr r.1, r.2)
       | false ↦ λ e h. (y, inl refl, e)
     ]) refl h
+
+-- some element passes
+pub some_passes : {X : Type 0} (p : X → Bool) (xs : List X) → list_any p xs ≡ true → (x : X) × IsOneOf x xs × (p x ≡ true)
+some_passes p [] h = absurd (true≢false (sym h))
+some_passes p (y ∷ xs) h =
+    (elim (p y) as (λ b. p y ≡ b → (b || list_any p xs) ≡ true → (x : _) × IsOneOf x (y ∷ xs) × (p x ≡ true)) [
+      | true ↦ λ e h. (y, inl refl, e)
+      | false ↦ λ e h. let r = some_passes p xs h in (r.0, inr r.1, r.2)
+    ]) refl h
+
+or_left : (a b : Bool) → a ≡ true → (a || b) ≡ true
+or_left a b h = ap (λ c. c || b) h
+
+or_right : (a b : Bool) → b ≡ true → (a || b) ≡ true
+or_right true b h = refl
+or_right false b h = h
+
+pub any_passes : {X : Type 0} (p : X → Bool) (x : X) (xs : List X) → IsOneOf x xs → p x ≡ true → list_any p xs ≡ true
+any_passes p x [] h e = absurd h
+any_passes p x (y ∷ xs) h e = elim h as (λ _. (p y || list_any p xs) ≡ true) [ inl q ↦ or_left (p y) (list_any p xs) (ap p (sym q) ∙ e) | inr t ↦ or_right (p y) (list_any p xs) (any_passes p x xs t e) ]
+
+pub is_among : (n : ℕ) (ns : List ℕ) → IsOneOf n ns → is_in ns n ≡ true
+is_among n ns h = any_passes _ n ns h (grind (arith, nat_tests))
+
+-- ---- what a filter keeps, and a search finds
+
+pub from_filter : {X : Type 0} (p : X → Bool) (x : X) (xs : List X) → IsOneOf x (filter p xs) → IsOneOf x xs × (p x ≡ true)
+from_filter p x [] h = absurd h
+from_filter p x (y ∷ xs) h =
+    (elim (p y) as (λ b. p y ≡ b → IsOneOf x (cond b (y ∷ filter p xs) (filter p xs)) → IsOneOf x (y ∷ xs) × (p x ≡ true)) [
+      | true ↦ λ e h. (elim h as (λ _. IsOneOf x (y ∷ xs) × (p x ≡ true)) [ inl q ↦ (inl q, ap p q ∙ e) | inr t ↦ let r = from_filter p x xs t in (inr r.0, r.1) ])
+      | false ↦ λ e h. let r = from_filter p x xs h in (inr r.0, r.1)
+    ]) refl h
+
+pub to_filter : {X : Type 0} (p : X → Bool) (x : X) (xs : List X) → IsOneOf x xs → p x ≡ true → IsOneOf x (filter p xs)
+to_filter p x [] h e = absurd h
+to_filter p x (y ∷ xs) h e =
+    (elim (p y) as (λ b. p y ≡ b → IsOneOf x (cond b (y ∷ filter p xs) (filter p xs))) [
+      | true ↦ λ q. (elim h as (λ _. IsOneOf x (y ∷ filter p xs)) [ inl same ↦ inl same | inr t ↦ inr (to_filter p x xs t e) ])
+      | false ↦ λ q. (elim h as (λ _. IsOneOf x (filter p xs)) [ inl same ↦ absurd (true≢false (sym e ∙ ap p same ∙ q)) | inr t ↦ to_filter p x xs t e ])
+    ]) refl
+
+pub found_in : {X : Type 0} (p : X → Bool) (x : X) (xs : List X) → find p xs ≡ Some x → IsOneOf x xs × (p x ≡ true)
+found_in p x [] h = absurd (cc)
+found_in p x (y ∷ xs) h =
+    (elim (p y) as (λ b. p y ≡ b → cond b (Some y) (find p xs) ≡ Some x → IsOneOf x (y ∷ xs) × (p x ≡ true)) [
+      | true ↦ λ e h. let q : y ≡ x = cc in (inl (sym q), ap p (sym q) ∙ e)
+      | false ↦ λ e h. let r = found_in p x xs h in (inr r.0, r.1)
+    ]) refl h
+
+pub from_numbered : {X : Type 0} (n : ℕ) (e : ℕ × X) (xs : List X) → IsOneOf e (enumerate_from n xs) → IsOneOf e.1 xs
+from_numbered n e [] h = absurd h
+from_numbered n e (x ∷ xs) h = elim h as (λ _. IsOneOf e.1 (x ∷ xs)) [ inl q ↦ inl (ap (λ p. p.1) q) | inr t ↦ inr (from_numbered (n + 1) e xs t) ]

@@ -8,11 +8,16 @@ pub mod Answering
 pub mod Meeting
 pub mod Parts
 pub mod MapLaws
+mod Candidates
 mod Conversions
 mod Decimals
+mod Fitting
+mod Fronts
+mod Inherited
 mod Lengths
 mod NewClass
 mod PastFields
 mod SchemaLaws
 mod Nodes
 mod StateWalks
+mod Told

@@ -15,7 +15,7 @@ use Rattle.oc_model.specs.SchemaSteps.{declared_fields, with_new_class}
 -- ---- parents come earlier
 
 -- the class behind so many others has one of those as its parent, or none
-abbrev IsEarlier : Schema → Type 0
+abbrev pub IsEarlier : Schema → Type 0
 IsEarlier s = (c : ℕ) → parent_of (class_at s (suc c)) ≤ c
 
 below_more : (p m : ℕ) → p < m → p < m + 0
@@ -29,7 +29,7 @@ strictly_in m [] p h i = omega arith
 strictly_in m (c ∷ cs) p h zero = below_more c.parent m (ltb-true c.parent m (and_parts _ _ h).0)
 strictly_in m (c ∷ cs) p h (suc i) = next_place (parent_of (slice_get cs i)) m i (strictly_in (m + 1) cs (omega arith) (and_parts _ _ h).1 i)
 
-is_earlier : (s : Schema) → has_earlier_parents s ≡ true → IsEarlier s
+pub is_earlier : (s : Schema) → has_earlier_parents s ≡ true → IsEarlier s
 is_earlier s h c = let a = strictly_in 1 s.classes (omega arith) h c in omega arith
 
 -- ---- the classes that were there
@@ -47,7 +47,7 @@ at_the_end : (cs : List ClassDef) (d : ClassDef) → slice_get (cs ++ d ∷ []) 
 at_the_end [] d = refl
 at_the_end (c ∷ cs) d = at_the_end cs d
 
-no_fields : (n : ℕ) (s : Schema) → fields_within n s 0 ≡ []
+pub no_fields : (n : ℕ) (s : Schema) → fields_within n s 0 ≡ []
 no_fields zero s = refl
 no_fields (suc n) s = ap (λ fields. fields ++ []) (no_fields n s)
 

@@ -11,6 +11,7 @@ pub mod SchemaSteps
 pub mod SchemaEquality
 pub mod Stores
 pub mod Spelling
+pub mod StoreRules
 pub mod States
 pub mod Nodes
 pub mod StateRules

@@ -1,5 +1,6 @@
 -- The bytes of a record, of the entries of lists, and of the catalog. Numbers stand with their highest byte first.
-use Rattle.std.specs.Prelude.{ℕ, ◌+◌, Bool, List, [], ◌∷◌, ◌++◌, flat_map, length, Some, None, if◌then◌else◌}
+use Rattle.std.specs.Prelude.{◌≡◌, ◌≤◌, ◌^◌, ℕ, ◌+◌, ◌&&◌, nat_lt, nat_le, Bool, true, IsTrue, List, [], ◌∷◌, ◌++◌, flat_map, length, Some, None, if◌then◌else◌}
+use Rattle.std.specs.List.{list_all}
 use Rattle.std.specs.Int.{Width, w16, w32, w128, to_be_bytes, bytes_high_first, cast_unsigned}
 use Rattle.oc_model.specs.declared.value.Base.{Base}
 use Rattle.oc_model.specs.declared.value.Kind.{Kind}
@@ -12,7 +13,7 @@ use Rattle.oc_model.specs.declared.value.Rec.{Rec}
 use Rattle.oc_model.specs.declared.schema.FieldDef.{FieldDef}
 use Rattle.oc_model.specs.declared.schema.ClassDef.{ClassDef}
 use Rattle.oc_model.specs.Maps.{Text}
-use Rattle.oc_model.specs.Values.{fits}
+use Rattle.oc_model.specs.Values.{fits, fits_base}
 use Rattle.oc_model.specs.Kinds.{kind_tag}
 use Rattle.oc_model.specs.Schemas.{Schema}
 use Rattle.oc_model.specs.Stores.{width_of, base_of}
@@ -92,3 +93,50 @@ list_bytes l = to_be_bytes w32 l.0 ++ counted w32 (to_be_bytes w32) l.1
 unfoldable pub catalog_bytes : ℕ → Schema → List (ℕ × List ℕ) → List ℕ
 catalog_bytes next schema lists =
     1 ∷ to_be_bytes w32 next ++ to_be_bytes w32 schema.next_field ++ counted w16 class_bytes schema.classes ++ counted w32 list_bytes lists
+
+-- ---- what can be spelled, and what the bytes tell
+
+-- The bytes tell what they spell, whatever stands behind them: of two values with the same bytes in front both are one, and the same stands behind.
+abbrev pub Tells : {X : Type 0} → (X → Type 0) → (X → List ℕ) → Type 0
+Tells {X} P bytes = (x y : X) (rest more : List ℕ) → P x → P y → bytes x ++ rest ≡ bytes y ++ more → (x ≡ y) × (rest ≡ more)
+
+-- A text has fewer than 2^32 bytes, and a reference is at most 2,147,483,646.
+abbrev pub is_small_atom : Atom → Bool
+is_small_atom (atom.Text (Some t)) = nat_lt (length t) (2 ^ 32)
+is_small_atom (atom.Ref n) = nat_le n 2147483646
+is_small_atom _ = true
+
+-- An array has fewer than 2^32 elements, each of them small.
+abbrev pub is_small : Value → Bool
+is_small (value.One a) = is_small_atom a
+is_small (value.Many None) = true
+is_small (value.Many (Some items)) = nat_lt (length items) (2 ^ 32) && list_all is_small_atom items
+
+-- the number has 32 bits
+abbrev pub is_word : ℕ → Bool
+is_word n = nat_lt n (2 ^ 32)
+
+-- the number is from 1 on and has 32 bits
+abbrev pub is_id : ℕ → Bool
+is_id n = nat_le 1 n && is_word n
+
+-- A record that a file can hold: its class and its ids are from 1 on and have 32 bits, its entries are few, and its values are small and of their entries' kinds.
+pub record IsSpellable (r : Rec) : Type 0 where
+  pub class : IsTrue (is_id r.class)
+  pub few : length r.entries ≤ 65535
+  pub ids : IsTrue (list_all (λ e. is_id e.id) r.entries)
+  pub fits : IsTrue (list_all entry_fits r.entries)
+  pub small : IsTrue (list_all (λ e. is_small e.value) r.entries)
+
+-- Entries that one segment can hold: they are few, and each passes the test.
+pub record IsSegment {X : Type 0} (test : X → Bool) (entries : List X) : Type 0 where
+  pub few : length entries ≤ 65535
+  pub each : IsTrue (list_all test entries)
+
+-- an entry of the list of all objects: the number and the class have 32 bits
+abbrev pub is_extent : ℕ × ℕ → Bool
+is_extent e = is_word e.0 && is_word e.1
+
+-- an entry of a field's list: the value is a small one of the base kind, and the number has 32 bits
+abbrev pub is_indexed : Base → Atom × ℕ → Bool
+is_indexed b e = fits_base b e.0 && is_small_atom e.0 && is_word e.1

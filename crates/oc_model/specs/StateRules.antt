@@ -12,6 +12,7 @@ use Rattle.oc_model.specs.Values.{fits}
 use Rattle.oc_model.specs.Kinds.{same_kind}
 use Rattle.oc_model.specs.Schemas.{Schema, class_at, fields_of}
 use Rattle.oc_model.specs.Stores.{Store, class_of}
+use Rattle.oc_model.specs.StoreRules.{KeepsStore}
 use Rattle.oc_model.specs.States.{State, Live, Settings}
 use Rattle.oc_model.specs.Nodes.{named_in}
 
@@ -57,9 +58,11 @@ pub record IsLive (m : State) (o : Live) : Type 0 where
 
 -- ---- states
 
--- the schema and the records keep their rules
--- (see the rules of a store)
+-- What holds in a state between two lines.
 pub record IsState (m : State) : Type 0 where
+  -- both stores keep their rules
+  pub committed : KeepsStore m.committed
+  pub session : KeepsStore m.session
   -- a live object's handle is below the next one
   pub ascend : is_sorted nat_cmp m.live ≡ true
   pub handles : (h : ℕ) → is_some (at m.live h) ≡ true → (1 ≤ h) × (h < m.next_handle)

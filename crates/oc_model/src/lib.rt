@@ -6,6 +6,7 @@
 
 pub mod answer;
 pub mod command;
+pub mod laws_candidates;
 pub mod laws_conversions;
 pub mod laws_maps;
 pub mod laws_orders;
