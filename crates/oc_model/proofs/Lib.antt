@@ -21,3 +21,4 @@ mod SchemaLaws
 mod Nodes
 mod StateWalks
 mod Told
+mod States

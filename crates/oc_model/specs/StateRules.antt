@@ -8,11 +8,10 @@ use Rattle.oc_model.specs.declared.value.Entry.{Entry}
 use Rattle.oc_model.specs.declared.reach.ClassSettings.{ClassSettings}
 use Rattle.oc_model.specs.Maps.{Text, at}
 use Rattle.oc_model.specs.Lists.{IsOneOf}
-use Rattle.oc_model.specs.Values.{fits}
-use Rattle.oc_model.specs.Kinds.{same_kind}
 use Rattle.oc_model.specs.Schemas.{Schema, class_at, fields_of}
 use Rattle.oc_model.specs.Stores.{Store, class_of}
-use Rattle.oc_model.specs.StoreRules.{KeepsStore}
+use Rattle.oc_model.specs.Spelling.{entry_fits}
+use Rattle.oc_model.specs.StoreRules.{is_under, KeepsStore}
 use Rattle.oc_model.specs.States.{State, Live, Settings}
 use Rattle.oc_model.specs.Nodes.{named_in}
 
@@ -33,20 +32,16 @@ pub record AreSettings (s : Schema) (settings : Settings) : Type 0 where
 
 -- ---- live objects
 
--- the entry is that of the field, and its value fits
-abbrev pub is_entry_of : Entry → FieldDef → Bool
-is_entry_of e f = e.id == f.id && same_kind e.kind f.kind && fits f.kind e.value
-
--- every entry is that of a current field
-abbrev pub suits_fields : List FieldDef → List Entry → Bool
-suits_fields fields entries = list_all (λ e. list_any (is_entry_of e) fields) entries
+-- every entry is that of one of the fields, and its value fits
+abbrev pub are_of_fields : List FieldDef → List Entry → Bool
+are_of_fields fields entries = list_all (λ e. list_any (λ f. is_under f e) fields && entry_fits e) entries
 
 -- A live object in a state.
 pub record IsLive (m : State) (o : Live) : Type 0 where
   -- its class is there
   pub class : is_some (class_at m.session.schema o.class) ≡ true
   -- its values are those of current fields, and fit
-  pub fields : suits_fields (fields_of m.session.schema o.class) o.entries ≡ true
+  pub fields : are_of_fields (fields_of m.session.schema o.class) o.entries ≡ true
   -- its references are handles of live objects
   pub references : (h : ℕ) → IsOneOf h (named_in m.session.schema o.class o.entries) → is_some (at m.live h) ≡ true
   -- its number is in the session, with its class
