@@ -58,3 +58,7 @@ abandoned = refl
 three : summary all_built (empty_store 1) (generated 3) [] ≡ lines (codes "ready" ∷ codes "found 0" ∷ codes "found 1" ∷ codes "found 0" ∷ codes "committed 1" ∷ codes "closed" ∷ [])
 unfolding rows generated
 three = refl
+
+sixty_four : summary all_built (empty_store 1) (generated 64) [] ≡ lines (codes "ready" ∷ codes "found 6" ∷ codes "found 1" ∷ codes "found 5" ∷ codes "committed 1" ∷ codes "closed" ∷ [])
+unfolding rows generated
+sixty_four = refl
