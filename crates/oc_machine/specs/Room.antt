@@ -1,21 +1,20 @@
 -- Room: the bytes that a line may ask of the file, and what a run has spent up to a line.
-use Rattle.std.specs.Prelude.{ℕ, zero, suc, ◌+◌, ◌-◌, ◌*◌, ◌/◌, Bool, true, false, not, ◌&&◌, ◌||◌, ◌==◌, nat_lt, List, [], ◌∷◌, ◌++◌, map, fold, length, sum_by, Option, Some, None, Ok, Err, if◌then◌else◌}
+use Rattle.std.specs.Prelude.{ℕ, zero, suc, ◌+◌, ◌-◌, ◌*◌, ◌/◌, Bool, true, false, not, ◌&&◌, ◌||◌, ◌==◌, nat_lt, List, [], ◌∷◌, ◌++◌, map, fold, length, sum_by, Option, Some, None, Ok, Err, unwrap_or, if◌then◌else◌}
 use Rattle.oc_model.specs.declared.value.Rec.{Rec}
+use Rattle.oc_model.specs.declared.answer.Word.TheVariants as word
 use Rattle.oc_model.specs.declared.answer.Answer.{Answer}
+use Rattle.oc_model.specs.declared.command.Given.{Given}
 use Rattle.oc_model.specs.declared.command.Command.{Command}
 use Rattle.oc_model.specs.declared.command.Command.TheVariants.{Class, RenameClass, RenameField, Convert, Index, Unindex, Make, Store as StoreLine, Delete, Commit, Rollback}
 use Rattle.oc_model.specs.Maps.{Map, Text, keys, is_in}
+use Rattle.oc_model.specs.Schemas.{class_named}
 use Rattle.oc_model.specs.SchemaSteps.{conversion_of}
 use Rattle.oc_model.specs.Stores.{Store, record_len}
 use Rattle.oc_model.specs.Lengths.{catalog_len, entry_count}
 use Rattle.oc_model.specs.Space.{Part, Shortage, shortage}
 use Rattle.oc_model.specs.States.{State, start}
 use Rattle.oc_machine.specs.Reading.{Reading, reads, reading}
-use Rattle.oc_machine.specs.Outcomes.{Checked, ◌>>=◌, ◌>>◌, or_refuse}
-use Rattle.oc_model.specs.Schemas.{class_named}
-use Rattle.oc_model.specs.declared.answer.Word.TheVariants as word
-use Rattle.oc_model.specs.declared.command.Given.{Given}
-use Rattle.std.specs.Prelude.{unwrap_or}
+use Rattle.oc_machine.specs.Outcomes.{Checked, ◌>>=◌, or_refuse}
 use Rattle.oc_machine.specs.Memory.{live_named}
 use Rattle.oc_machine.specs.Values.{checked}
 use Rattle.oc_machine.specs.ObjectLines.{made}
@@ -173,9 +172,17 @@ spent built f len s script F i = up f len + spent_in i (expenses_from built f F 
 
 -- ---- the limit
 
--- More bytes than a file of so many blocks has, or than one cell can name.
-abbrev pub is_over : Form → ℕ → ℕ → ℕ → Bool
-is_over f limit asks bytes = nat_lt 4294967295 asks || nat_lt (limit * f.unit) bytes
+-- more bytes than a file of so many blocks has
+abbrev pub is_past : Form → ℕ → ℕ → Bool
+is_past f limit bytes = nat_lt (limit * f.unit) bytes
+
+-- more bytes than a cell can name
+abbrev pub is_unnamable : ℕ → Bool
+is_unnamable asks = nat_lt 4294967295 asks
+
+-- A line that asks for so much is over the limit with these bytes in all: they are past it, or a commit asks for more than a cell can name.
+abbrev pub is_over : Form → ℕ → Bool → ℕ → ℕ → Bool
+is_over f limit commits asks bytes = is_past f limit bytes || (commits && is_unnamable asks)
 
 -- The records of a line, by number, that find no room in these parts and behind this length, all in blocks.
 unfoldable pub no_room : Form → List Part → ℕ → ℕ → Map Rec → Option Shortage

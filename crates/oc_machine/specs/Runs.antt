@@ -1,5 +1,5 @@
 -- What a whole run says, and what it commits.
-use Rattle.std.specs.Prelude.{ℕ, ◌+◌, Bool, true, false, not, ◌&&◌, ◌||◌, ◌==◌, List, [], ◌∷◌, ◌++◌, length, flat_map, codes, Option, Some, None, is_none, option_to_list, slice_get, if◌then◌else◌}
+use Rattle.std.specs.Prelude.{◌≡◌, ℕ, ◌+◌, Bool, true, false, not, ◌&&◌, ◌||◌, ◌==◌, List, [], ◌∷◌, ◌++◌, length, flat_map, codes, Option, Some, None, is_none, option_to_list, slice_get, if◌then◌else◌}
 use Rattle.std.specs.List.{list_any, list_all}
 use Rattle.oc_model.specs.declared.command.Command.{Command}
 use Rattle.oc_model.specs.declared.command.Command.TheVariants.{Class, Make, Query, Store, Convert, Commit}
@@ -132,6 +132,25 @@ text built s script F = codes "ready\n" ++ flat_map answer_text (answers built s
 -- some line of that text is an error
 abbrev pub has_error : Built → Objects → Text → List ℕ → Bool
 has_error built s script F = list_any is_refusal (answers built s script F) || closes_full F script
+
+-- ---- the lines that find no room
+
+-- the answer is that there is no room
+abbrev pub is_full : Option Answer → Bool
+is_full (Some (answer.Refused (word.Full need len limit))) = true
+is_full _ = false
+
+-- the numbers of the lines from number i on that are answered so, and the closing
+abbrev pub full_from : Built → List ℕ → ℕ → State → List Text → List ℕ
+full_from built F i m [] = if is_in F i then i ∷ [] else []
+full_from built F i m (l ∷ ls) =
+    let r = line_step built (is_in F i) m l in
+    let more = full_from built F (i + 1) r.0 ls in
+    if is_full r.1 then i ∷ more else more
+
+-- F names just the lines that find no room: each asks for room and has no other refusal.
+abbrev pub IsFullAt : Built → Objects → Text → List ℕ → Type 0
+IsFullAt built s script F = full_from built F 1 (start s) (lines_of script) ≡ F
 
 -- ---- what a run commits
 

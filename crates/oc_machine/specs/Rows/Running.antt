@@ -2,7 +2,7 @@
 use Rattle.std.specs.Prelude.{◌≡◌, refl, ℕ, codes, List, ◌∷◌, [], length, map, Option, Some, None, option_map}
 use Rattle.oc_model.specs.Maps.{Text, keys}
 use Rattle.oc_model.specs.Stores.{empty_store}
-use Rattle.oc_machine.specs.Runs.{all_built, text, summary, committed_stores, store_after, left_by}
+use Rattle.oc_machine.specs.Runs.{IsFullAt, all_built, text, summary, committed_stores, store_after, left_by}
 use Rattle.oc_machine.specs.Generated.{generated}
 use Rattle.oc_machine.specs.Rows.{rows, lines, run_over}
 
@@ -23,6 +23,11 @@ without_room : text all_built (empty_store 1) (lines script) (1 ∷ 4 ∷ 5 ∷ 
     ≡ lines (codes "ready" ∷ codes "ok" ∷ codes "error full" ∷ codes "error class" ∷ codes "error full" ∷ codes "stored ~1 1" ∷ codes "~1 A { }" ∷ codes "found 1" ∷ codes "error full" ∷ codes "abandoned" ∷ [])
 unfolding rows
 without_room = refl
+
+-- just these lines find no room
+full_lines : IsFullAt all_built (empty_store 1) (lines script) (4 ∷ 6 ∷ 9 ∷ [])
+unfolding rows
+full_lines = refl
 
 -- the numbers of the objects in each committed store of that script
 abbrev committed_numbers : List ℕ → List (List ℕ)

@@ -1,12 +1,13 @@
 -- What lines read, ask and spend, against numbers that were counted by hand.
-use Rattle.std.specs.Prelude.{◌≡◌, refl, ℕ, true, false, codes, List, ◌∷◌, []}
-use Rattle.oc_model.specs.Maps.{Text}
+use Rattle.std.specs.Prelude.{◌≡◌, refl, ℕ, true, false, ◌==◌, codes, List, ◌∷◌, [], filter, Some, None}
+use Rattle.oc_model.specs.declared.value.Rec.{Rec}
+use Rattle.oc_model.specs.Maps.{Map, Text}
 use Rattle.oc_model.specs.Stores.{empty_store}
 use Rattle.oc_model.specs.States.{State, start}
 use Rattle.oc_machine.specs.Reading.{Reading, nothing, refused, reads, reading}
 use Rattle.oc_machine.specs.Runs.{all_built, state_after}
 use Rattle.oc_machine.specs.Costs.{cost}
-use Rattle.oc_machine.specs.Room.{Form, Since, with_change, nothing_since, asked, spent}
+use Rattle.oc_machine.specs.Room.{Form, Since, with_change, nothing_since, asked, spent, is_over, no_room}
 use Rattle.oc_machine.specs.Rows.{rows, lines}
 
 -- the state that these lines lead to
@@ -150,3 +151,31 @@ refused_spends = refl
 nothing_spent : spent all_built plain 128 (empty_store 1) (codes "commit") [] 2 ≡ 128
 unfolding rows spent
 nothing_spent = refl
+
+-- ---- the limit
+
+-- 4 blocks of 16 bytes hold 64 bytes.
+just_within : is_over (in_blocks 16) 4 true 64 64 ≡ false
+just_within = refl
+
+past_the_end : is_over (in_blocks 16) 4 false 1 65 ≡ true
+past_the_end = refl
+
+-- A commit that asks for more than a cell can name is over any limit, and another line isn't.
+unnamable : is_over (in_blocks 127) 2147483647 true 4294967296 4294967296 ≡ true
+unnamable = refl
+
+namable : is_over (in_blocks 127) 2147483647 false 4294967296 4294967296 ≡ false
+namable = refl
+
+-- A record of 32 bytes takes two blocks of 20: the part of two is better than that of three. Another one finds no room behind 7 of 8 blocks.
+abbrev written : List Text → ℕ → Map Rec
+written script n = filter (λ e. e.0 == n) (behind script).session.records
+
+takes_the_best : no_room (in_blocks 20) (record { address = 7; blocks = 3 } ∷ record { address = 20; blocks = 2 } ∷ []) 30 30 (written pilot 1) ≡ None
+unfolding rows no_room
+takes_the_best = refl
+
+finds_none : no_room (in_blocks 20) (record { address = 7; blocks = 1 } ∷ []) 29 30 (written pilot 1) ≡ Some (record { need = 2; length = 29 })
+unfolding rows no_room
+finds_none = refl
