@@ -1,5 +1,5 @@
 -- What is past a limit, and what is just within it.
-use Rattle.std.specs.Prelude.{◌≡◌, refl, ℕ, true, false, codes, ◌∷◌, ◌++◌, [], replicate, Some}
+use Rattle.std.specs.Prelude.{◌≡◌, refl, ℕ, true, false, codes, ◌∷◌, ◌++◌, [], replicate, flat_map, decimal, Some}
 use Rattle.oc_model.specs.declared.value.Base.TheVariants as base
 use Rattle.oc_model.specs.declared.value.Kind.TheVariants as kind
 use Rattle.oc_model.specs.declared.value.Atom.TheVariants as atom
@@ -7,6 +7,7 @@ use Rattle.oc_model.specs.declared.value.Value.TheVariants as value
 use Rattle.oc_model.specs.declared.value.Rec.{Rec}
 use Rattle.oc_model.specs.Maps.{Map}
 use Rattle.oc_machine.specs.SchemaLines.{are_short}
+use Rattle.oc_machine.specs.Generated.{up_to}
 use Rattle.oc_machine.specs.Rows.{rows, lines, run, times, said_by_whole}
 
 -- 32 ancestors are allowed, and one more is refused.
@@ -88,11 +89,23 @@ ancestors : run (
 unfolding rows
 ancestors = refl
 
+-- A class below has its 255 fields, so the one above gets none more. A name that is taken there is told first.
+fields_of_descendants : said_by_whole (codes "class A { }\nclass B : A { " ++ flat_map (λ i. codes "f" ++ decimal i ++ codes ": i8, ") (up_to 254) ++ codes "g: i8 }\nclass A { h: i8 }\nclass A { g: i8 }\n")
+    ≡ codes "ready\nok\nok\nerror size\nerror exists\nclosed\n"
+unfolding rows
+fields_of_descendants = refl
+
 -- A path of 64 references is an example, and one reference more is too deep.
 deep_examples : said_by_whole (codes "class N { a: ref }\nnew x N { }\n" ++ times 64 (codes "new x N { a: x }\n") ++ codes "example x\nnew x N { a: x }\nexample x\n")
     ≡ codes "ready\nok\n" ++ times 65 (codes "ok\n") ++ codes "found 0\nok\nerror deep\nclosed\n"
 unfolding rows
 deep_examples = refl
+
+-- Of an example that is too deep and too large, the depth is told.
+deep_and_wide_examples : said_by_whole (codes "class N { a: ref, b: ref }\nnew x N { }\n" ++ times 65 (codes "new x N { a: x, b: x }\n") ++ codes "example x\n")
+    ≡ codes "ready\nok\n" ++ times 66 (codes "ok\n") ++ codes "error deep\nclosed\n"
+unfolding rows
+deep_and_wide_examples = refl
 
 -- Each of 16 objects names the one before it twice, so 131,070 references are counted.
 wide_examples : said_by_whole (codes "class N { a: ref, b: ref }\nnew x N { }\n" ++ times 16 (codes "new x N { a: x, b: x }\n") ++ codes "example x\n")
