@@ -1,11 +1,11 @@
 -- The lines that end a transaction: commit and rollback.
-use Rattle.std.specs.Prelude.{ℕ, ◌+◌, Bool, true, false, not, List, [], filter, Option, Some, None, is_some, option_map, unwrap_or, if◌then◌else◌}
+use Rattle.std.specs.Prelude.{◌+◌, Bool, false, not, [], filter, is_some, option_map, unwrap_or, if◌then◌else◌}
 use Rattle.oc_model.specs.declared.answer.Answer.TheVariants as answer
 use Rattle.oc_model.specs.Schemas.{Schema, class_at}
 use Rattle.oc_model.specs.SchemaEquality.{differs}
 use Rattle.oc_model.specs.Stores.{Store}
 use Rattle.oc_model.specs.States.{State, Live, Settings}
-use Rattle.oc_model.specs.Nodes.{is_stored, is_number}
+use Rattle.oc_model.specs.Nodes.{is_stored}
 use Rattle.oc_machine.specs.Outcomes.{Outcome}
 use Rattle.oc_machine.specs.Memory.{with_all, detached}
 

@@ -1,27 +1,21 @@
 -- What a line may cost: the bytes that it reads.
-use Rattle.std.specs.Prelude.{ℕ, ◌*◌, ◌||◌, Bool, true, false, List, [], ◌∷◌, ◌++◌, map, filter, filter_map, flat_map, fold, length, sum_by, Option, Some, None, option_map, unwrap_or, Result, Ok, Err, if◌then◌else◌}
-use Rattle.std.specs.List.{list_any}
+use Rattle.std.specs.Prelude.{ℕ, ◌*◌, Bool, List, [], ◌∷◌, ◌++◌, filter, flat_map, fold, sum_by, option_map, unwrap_or, Ok, Err}
 use Rattle.oc_model.specs.declared.value.Kind.{Kind}
-use Rattle.oc_model.specs.declared.value.Value.{Value}
-use Rattle.oc_model.specs.declared.value.Rec.{Rec}
-use Rattle.oc_model.specs.declared.schema.FieldDef.{FieldDef}
 use Rattle.oc_model.specs.declared.query.Expr.{Expr, Row_of-Expr, end_of-Expr, more_of-Expr, Not', And', Or', Inside', All, Test, Null, Is}
-use Rattle.oc_model.specs.declared.reach.Node.{Node}
 use Rattle.oc_model.specs.declared.reach.Node.TheVariants as node
 use Rattle.oc_model.specs.declared.command.Given.{Given}
 use Rattle.oc_model.specs.declared.command.Command.{Command}
 use Rattle.oc_model.specs.declared.command.Command.TheVariants.{Convert, Index, Make, PeekName, PeekNumber, Store as StoreLine, Delete, Activate, Deactivate, Refresh, Query, Example, Commit, Rollback}
 use Rattle.oc_model.specs.declared.answer.Word.TheVariants as word
 use Rattle.oc_model.specs.Maps.{Map, Text, at, with_at, keys}
-use Rattle.oc_model.specs.References.{refs_in, refs_in_atom}
-use Rattle.oc_model.specs.Schemas.{Schema, class_named, fields_of, field_named, is_sub}
+use Rattle.oc_model.specs.References.{refs_in_atom}
+use Rattle.oc_model.specs.Schemas.{class_named, fields_of, field_named, is_sub}
 use Rattle.oc_model.specs.SchemaSteps.{conversion_of}
 use Rattle.oc_model.specs.Stores.{Store, record_len}
 use Rattle.oc_model.specs.Lengths.{catalog_len}
 use Rattle.oc_model.specs.Queries.{named, value_named, values, is_of}
 use Rattle.oc_model.specs.Candidates.{has_field, candidates}
-use Rattle.oc_model.specs.States.{State, Live}
-use Rattle.oc_model.specs.Nodes.{is_stored}
+use Rattle.oc_model.specs.States.{State}
 use Rattle.oc_model.specs.Walks.{best}
 use Rattle.oc_model.specs.StateWalks.{activate_walk, deactivate_walk, refresh_walk, store_walk, delete_walk}
 use Rattle.oc_machine.specs.Outcomes.{Checked, ◌>>=◌, or_refuse}

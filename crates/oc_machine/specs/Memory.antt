@@ -1,5 +1,5 @@
 -- The objects in memory: their names, and what makes, fills, empties and detaches them.
-use Rattle.std.specs.Prelude.{ℕ, ◌+◌, Bool, true, false, not, ◌==◌, List, [], ◌∷◌, ◌++◌, map, filter, filter_map, fold, Option, Some, None, is_some, is_none, option_map, unwrap_or, if◌then◌else◌, Ok}
+use Rattle.std.specs.Prelude.{ℕ, ◌+◌, Bool, true, false, not, ◌==◌, List, [], ◌∷◌, ◌++◌, map, filter, filter_map, fold, Option, Some, None, is_none, unwrap_or, if◌then◌else◌, Ok}
 use Rattle.std.specs.Ordering.{nat_cmp}
 use Rattle.oc_model.specs.declared.value.Atom.{Atom}
 use Rattle.oc_model.specs.declared.value.Atom.TheVariants as atom
@@ -10,12 +10,12 @@ use Rattle.oc_model.specs.declared.value.Rec.{Rec}
 use Rattle.oc_model.specs.declared.reach.Node.{Node}
 use Rattle.oc_model.specs.declared.reach.Node.TheVariants as node
 use Rattle.oc_model.specs.declared.answer.Word.TheVariants as word
-use Rattle.oc_model.specs.Maps.{Map, Text, at, with_at, same}
+use Rattle.oc_model.specs.Maps.{Text, at, with_at, same}
 use Rattle.oc_model.specs.Lists.{sorted}
 use Rattle.oc_model.specs.Refusals.{Checked, ◌>>=◌, or_refuse}
 use Rattle.oc_model.specs.Stores.{written}
 use Rattle.oc_model.specs.States.{State, Live}
-use Rattle.oc_model.specs.Nodes.{handle_of, is_unsaved, named_in}
+use Rattle.oc_model.specs.Nodes.{handle_of, named_in}
 use Rattle.oc_model.specs.Walks.{Table}
 
 -- ---- names

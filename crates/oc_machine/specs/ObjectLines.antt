@@ -1,5 +1,5 @@
 -- The lines on single objects and their names: new, let, bind, forget, names, purge and config.
-use Rattle.std.specs.Prelude.{ℕ, ◌+◌, Bool, true, false, not, ◌==◌, nat_le, List, [], ◌∷◌, map, filter_map, find, Option, Some, None, Ok, Err, is_some, if◌then◌else◌}
+use Rattle.std.specs.Prelude.{ℕ, Bool, true, false, not, ◌==◌, nat_le, List, [], ◌∷◌, filter_map, Option, Some, None, Ok, is_some, if◌then◌else◌}
 use Rattle.oc_model.specs.declared.value.Base.TheVariants as base
 use Rattle.oc_model.specs.declared.value.Kind.{Kind}
 use Rattle.oc_model.specs.declared.value.Kind.TheVariants as kind

@@ -1,7 +1,6 @@
 -- The lines that ask: query and example.
-use Rattle.std.specs.Prelude.{ℕ, Bool, true, false, ◌&&◌, List, [], ◌∷◌, filter_map, map, Option, Some, None, Ok, is_some, if◌then◌else◌}
+use Rattle.std.specs.Prelude.{ℕ, Bool, false, ◌&&◌, List, [], ◌∷◌, filter_map, Option, Some, None, Ok, is_some}
 use Rattle.std.specs.List.{list_any}
-use Rattle.oc_model.specs.declared.value.Atom.{Atom}
 use Rattle.oc_model.specs.declared.value.Atom.TheVariants as atom
 use Rattle.oc_model.specs.declared.query.Op.{Op}
 use Rattle.oc_model.specs.declared.query.Op.TheVariants as op

@@ -1,5 +1,5 @@
 -- Room: the bytes that a line may ask of the file, and what a run has spent up to a line.
-use Rattle.std.specs.Prelude.{ℕ, zero, suc, ◌+◌, ◌-◌, ◌*◌, ◌/◌, Bool, true, false, not, ◌&&◌, ◌||◌, ◌==◌, nat_lt, List, [], ◌∷◌, ◌++◌, map, fold, length, sum_by, Option, Some, None, Ok, Err, unwrap_or, if◌then◌else◌}
+use Rattle.std.specs.Prelude.{ℕ, zero, suc, ◌+◌, ◌-◌, ◌*◌, ◌/◌, Bool, true, false, not, ◌&&◌, ◌||◌, ◌==◌, nat_lt, List, [], ◌∷◌, ◌++◌, map, length, sum_by, Option, Some, None, Ok, unwrap_or, if◌then◌else◌}
 use Rattle.oc_model.specs.declared.value.Rec.{Rec}
 use Rattle.oc_model.specs.declared.answer.Word.TheVariants as word
 use Rattle.oc_model.specs.declared.answer.Answer.{Answer}
@@ -19,7 +19,7 @@ use Rattle.oc_machine.specs.Memory.{live_named}
 use Rattle.oc_machine.specs.Values.{checked}
 use Rattle.oc_machine.specs.ObjectLines.{made}
 use Rattle.oc_machine.specs.SchemaLines.{conversions}
-use Rattle.oc_machine.specs.WalkLines.{StorePlan, store_plan, store_depth, deleted_numbers}
+use Rattle.oc_machine.specs.WalkLines.{store_plan, store_depth, deleted_numbers}
 use Rattle.oc_machine.specs.Runs.{Built, lines_of, line_step, is_refusal}
 use Rattle.oc_machine.specs.Costs.{or_nothing, each_once}
 

@@ -1,5 +1,5 @@
 -- The lines that change the schema: class, rename, index, unindex and convert.
-use Rattle.std.specs.Prelude.{ℕ, Bool, true, false, not, ◌&&◌, ◌==◌, nat_le, List, [], ◌∷◌, filter, filter_map, fold, length, Option, Some, None, Ok, is_some, is_none, option_map, if◌then◌else◌}
+use Rattle.std.specs.Prelude.{ℕ, Bool, not, ◌&&◌, ◌==◌, nat_le, List, filter, filter_map, fold, length, Option, Some, None, Ok, is_none, option_map, if◌then◌else◌}
 use Rattle.std.specs.Option.{option_and_then}
 use Rattle.std.specs.List.{list_all, list_any}
 use Rattle.oc_model.specs.declared.value.Kind.{Kind}

@@ -1,5 +1,5 @@
 -- The values that a line gives to fields: what has to be there, and what they come to.
-use Rattle.std.specs.Prelude.{ℕ, Bool, not, List, [], ◌∷◌, map, flat_map, fold, Option, Some, None, Ok, is_some, unwrap_or}
+use Rattle.std.specs.Prelude.{ℕ, not, List, [], ◌∷◌, map, flat_map, fold, Some, None, Ok, is_some, unwrap_or}
 use Rattle.std.specs.List.{list_any}
 use Rattle.oc_model.specs.declared.value.Base.{Base}
 use Rattle.oc_model.specs.declared.value.Base.TheVariants as base

@@ -1,5 +1,5 @@
 -- The lines that walk: store, make, delete, activate, deactivate, refresh, show and peek.
-use Rattle.std.specs.Prelude.{ℕ, ◌+◌, Bool, true, false, not, ◌&&◌, nat_le, List, [], ◌∷◌, map, filter, filter_map, fold, length, Option, Some, None, Ok, is_some, option_map, unwrap_or, if◌then◌else◌}
+use Rattle.std.specs.Prelude.{ℕ, ◌+◌, Bool, true, false, not, ◌&&◌, nat_le, List, [], filter, filter_map, fold, length, Option, Some, None, Ok, option_map, unwrap_or, if◌then◌else◌}
 use Rattle.oc_model.specs.declared.value.Entry.{Entry}
 use Rattle.oc_model.specs.declared.value.Rec.{Rec}
 use Rattle.oc_model.specs.declared.reach.Node.TheVariants as node
@@ -7,7 +7,6 @@ use Rattle.oc_model.specs.declared.command.Given.{Given}
 use Rattle.oc_model.specs.declared.command.SideText.{SideText}
 use Rattle.oc_model.specs.declared.command.SideText.TheVariants as side
 use Rattle.oc_model.specs.declared.answer.Mark.{Mark}
-use Rattle.oc_model.specs.declared.answer.Mark.TheVariants as mark
 use Rattle.oc_model.specs.declared.answer.Shown.{Shown}
 use Rattle.oc_model.specs.declared.answer.Shown.TheVariants as shown
 use Rattle.oc_model.specs.declared.answer.ObjectLine.{ObjectLine}
@@ -17,11 +16,11 @@ use Rattle.oc_model.specs.Maps.{Map, Text, at, with_at, is_in}
 use Rattle.oc_model.specs.Schemas.{class_named, fields_of}
 use Rattle.oc_model.specs.Stores.{Store, written}
 use Rattle.oc_model.specs.States.{State, Live, settings_of}
-use Rattle.oc_model.specs.Nodes.{is_stored, is_unsaved, is_number, named_in}
-use Rattle.oc_model.specs.Walks.{Table, best}
+use Rattle.oc_model.specs.Nodes.{is_stored, is_unsaved}
+use Rattle.oc_model.specs.Walks.{best}
 use Rattle.oc_model.specs.StateWalks.{activate_walk, deactivate_walk, refresh_walk, peek_walk, store_walk, delete_walk, show_walk}
 use Rattle.oc_machine.specs.Outcomes.{Outcome, Checked, ◌>>=◌, ◌>>◌, unless, or_refuse}
-use Rattle.oc_machine.specs.Memory.{live_named, with_live, entries_by, to_number, all_filled, emptied, detached, with_all, number_at, handles_in, numbers_in}
+use Rattle.oc_machine.specs.Memory.{live_named, entries_by, to_number, all_filled, emptied, detached, with_all, handles_in, numbers_in}
 use Rattle.oc_machine.specs.Values.{checked}
 use Rattle.oc_machine.specs.SchemaLines.{with_records, are_short}
 use Rattle.oc_machine.specs.ObjectLines.{made, mark_of}

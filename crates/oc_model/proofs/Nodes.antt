@@ -10,7 +10,7 @@ use Rattle.oc_model.specs.Maps.{Map, at, keys}
 use Rattle.oc_model.specs.Lists.{IsOneOf}
 use Rattle.oc_model.specs.Stores.{Store}
 use Rattle.oc_model.specs.States.{State, Live}
-use Rattle.oc_model.specs.StateRules.{IsState, IsLive}
+use Rattle.oc_model.specs.StateRules.{IsState}
 use Rattle.oc_model.specs.Nodes.{is_number, is_unsaved, is_awake, handle_of, is_stored, node_for, node_of, nodes, named_in, live_next, record_next, stored_next, object_next, view_next, refresh_next, memory_next, side_named, side_next}
 use Rattle.oc_model.proofs.Elements.{in_left, in_right, to_map, from_map}
 use Rattle.oc_model.proofs.Reaching.{is_equal}

@@ -10,7 +10,7 @@ use Rattle.oc_model.specs.StateRules.{IsState, AreSettings}
 use Rattle.oc_model.specs.Walks.{IsLawful, clamped, at_least_if}
 use Rattle.oc_model.specs.Nodes.{node_class}
 use Rattle.oc_model.specs.StateWalks.{class_settings, node_settings, activate_walk, deactivate_walk, refresh_walk, peek_walk, store_walk, delete_walk, show_walk}
-use Rattle.oc_model.proofs.Budgets.{clamped_small, clamped_rises, at_least_small, at_least_rises, plain_lawful}
+use Rattle.oc_model.proofs.Budgets.{clamped_rises, at_least_small, at_least_rises, plain_lawful}
 use Rattle.oc_model.proofs.Nodes.{view_inside, refresh_inside, memory_inside, side_inside}
 
 -- ---- settings

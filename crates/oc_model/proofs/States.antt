@@ -1,5 +1,5 @@
 -- A run begins in a state that keeps the rules.
-use Rattle.std.proofs.Common.{◌≡◌, ℕ, true, false, [], Option, Some, None, is_some, refl, sym, arith, true≢false}
+use Rattle.std.proofs.Common.{◌≡◌, Some, None, refl, sym, arith, true≢false}
 use Rattle.oc_model.specs.Stores.{Store}
 use Rattle.oc_model.specs.StoreRules.{KeepsStore}
 use Rattle.oc_model.specs.States.{start}

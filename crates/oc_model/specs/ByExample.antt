@@ -1,7 +1,7 @@
 -- The query that a live object asks as an example, and when it is none.
-use Rattle.std.specs.Prelude.{ℕ, zero, suc, pos, ◌+◌, ◌*◌, Bool, true, false, not, ◌==◌, nat_lt, List, [], ◌∷◌, map, filter, flat_map, fold, length, sum_by, Option, Some, None, Ok, is_none, option_map, unwrap_or, if◌then◌else◌}
-use Rattle.std.specs.List.{list_any, list_all}
-use Rattle.std.specs.FinMap.{find, put}
+use Rattle.std.specs.Prelude.{ℕ, zero, suc, pos, ◌+◌, ◌*◌, Bool, true, false, not, ◌==◌, nat_lt, List, [], ◌∷◌, map, filter, flat_map, fold, length, sum_by, Option, Some, None, Ok, option_map, unwrap_or}
+use Rattle.std.specs.List.{list_all}
+use Rattle.std.specs.FinMap.{put}
 use Rattle.oc_model.specs.declared.value.Atom.{Atom}
 use Rattle.oc_model.specs.declared.value.Atom.TheVariants as atom
 use Rattle.oc_model.specs.declared.value.Value.{Value}

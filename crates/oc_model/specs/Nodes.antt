@@ -1,6 +1,5 @@
 -- The nodes of a state, and what each of them names.
-use Rattle.std.specs.Prelude.{ℕ, Bool, true, false, ◌||◌, ◌==◌, List, [], ◌∷◌, ◌++◌, map, filter, filter_map, flat_map, find, Option, Some, None, is_some, is_none, option_map, if◌then◌else◌}
-use Rattle.oc_model.specs.declared.value.Value.{Value}
+use Rattle.std.specs.Prelude.{ℕ, Bool, true, false, ◌||◌, ◌==◌, List, [], ◌++◌, map, filter, filter_map, flat_map, find, Option, Some, None, is_some, is_none, option_map, if◌then◌else◌}
 use Rattle.oc_model.specs.declared.value.Entry.{Entry}
 use Rattle.oc_model.specs.declared.value.Rec.{Rec}
 use Rattle.oc_model.specs.declared.reach.Node.{Node}

@@ -1,5 +1,5 @@
 -- What holds in every state between two lines.
-use Rattle.std.specs.Prelude.{ℕ, ◌≡◌, ◌≤◌, ◌<◌, Bool, true, false, ◌&&◌, ◌==◌, List, [], Option, Some, None, is_some, unwrap_or}
+use Rattle.std.specs.Prelude.{ℕ, ◌≡◌, ◌≤◌, ◌<◌, Bool, true, false, ◌&&◌, List, [], Some, None, is_some, unwrap_or}
 use Rattle.std.specs.FinMap.{is_sorted}
 use Rattle.std.specs.List.{list_all, list_any}
 use Rattle.std.specs.Ordering.{nat_cmp}
@@ -9,7 +9,7 @@ use Rattle.oc_model.specs.declared.reach.ClassSettings.{ClassSettings}
 use Rattle.oc_model.specs.Maps.{Text, at}
 use Rattle.oc_model.specs.Lists.{IsOneOf}
 use Rattle.oc_model.specs.Schemas.{Schema, class_at, fields_of}
-use Rattle.oc_model.specs.Stores.{Store, class_of}
+use Rattle.oc_model.specs.Stores.{class_of}
 use Rattle.oc_model.specs.Spelling.{entry_fits}
 use Rattle.oc_model.specs.StoreRules.{is_under, KeepsStore}
 use Rattle.oc_model.specs.States.{State, Live, Settings}

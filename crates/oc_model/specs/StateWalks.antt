@@ -1,5 +1,5 @@
 -- The seven walks of a state: what each sees, with which budget a node arrives, and what it hands on.
-use Rattle.std.specs.Prelude.{ℕ, ◌-◌, List, map, Option, Some, None, if◌then◌else◌}
+use Rattle.std.specs.Prelude.{ℕ, ◌-◌, map, Option, Some, None, if◌then◌else◌}
 use Rattle.oc_model.specs.declared.reach.Node.{Node}
 use Rattle.oc_model.specs.declared.reach.Node.TheVariants as node
 use Rattle.oc_model.specs.declared.reach.ClassSettings.{ClassSettings}

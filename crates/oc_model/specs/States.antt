@@ -1,5 +1,5 @@
 -- The state of the machine between two lines.
-use Rattle.std.specs.Prelude.{ℕ, ◌+◌, Bool, false, List, [], Option, None, unwrap_or}
+use Rattle.std.specs.Prelude.{ℕ, Bool, false, List, [], Option, None, unwrap_or}
 use Rattle.oc_model.specs.declared.value.Entry.{Entry}
 use Rattle.oc_model.specs.declared.reach.ClassSettings.{ClassSettings}
 use Rattle.oc_model.specs.Maps.{Map, Text, at}

@@ -1,5 +1,5 @@
 -- Whole runs: numbers that run out, lines without room, commits, and the generated script.
-use Rattle.std.specs.Prelude.{◌≡◌, refl, ℕ, codes, List, ◌∷◌, [], length, map, Option, Some, None, option_map}
+use Rattle.std.specs.Prelude.{◌≡◌, refl, ℕ, codes, List, ◌∷◌, [], map, Some, None, option_map}
 use Rattle.oc_model.specs.Maps.{Text, keys}
 use Rattle.oc_model.specs.Stores.{empty_store}
 use Rattle.oc_machine.specs.Runs.{IsFullAt, all_built, text, summary, committed_stores, store_after, left_by}

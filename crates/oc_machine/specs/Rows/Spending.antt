@@ -4,7 +4,7 @@ use Rattle.oc_model.specs.declared.value.Rec.{Rec}
 use Rattle.oc_model.specs.Maps.{Map, Text}
 use Rattle.oc_model.specs.Stores.{empty_store}
 use Rattle.oc_model.specs.States.{State, start}
-use Rattle.oc_machine.specs.Reading.{Reading, nothing, refused, reads, reading}
+use Rattle.oc_machine.specs.Reading.{Reading, reads, reading}
 use Rattle.oc_machine.specs.Runs.{all_built, state_after}
 use Rattle.oc_machine.specs.Costs.{cost}
 use Rattle.oc_machine.specs.Room.{Form, Since, with_change, nothing_since, asked, spent, is_over, no_room}
