@@ -9,6 +9,7 @@ pub mod Meeting
 pub mod Parts
 pub mod MapLaws
 mod Candidates
+mod CatalogTold
 mod Conversions
 mod Decimals
 mod Fitting
@@ -17,5 +18,6 @@ mod Inherited
 mod Lengths
 mod NewClass
 mod PastFields
+mod Rules
 mod SchemaLaws
 mod Told

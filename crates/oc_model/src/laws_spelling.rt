@@ -1,12 +1,13 @@
-//! Laws of the bytes of records and of the entries of lists.
+//! Laws of the bytes of records, of the entries of lists, and of the catalog.
 
-ghost use Rattle.std.specs.Prelude.{◌≡◌, ◌&&◌, length, IsTrue};
+ghost use Rattle.std.specs.Prelude.{ℕ, ◌≡◌, ◌&&◌, List, length, IsTrue};
 ghost use Rattle.std.specs.List.{list_all};
 ghost use Rattle.oc_model.specs.declared.value.Base.{Base};
 ghost use Rattle.oc_model.specs.declared.value.Kind.{Kind};
 ghost use Rattle.oc_model.specs.declared.value.Rec.{Rec};
+ghost use Rattle.oc_model.specs.Schemas.{Schema};
 ghost use Rattle.oc_model.specs.Stores.{record_len};
-ghost use Rattle.oc_model.specs.Spelling.{entry_fits, extent_bytes, index_bytes, is_extent, is_indexed, is_small, record_bytes, segment_bytes, value_bytes, IsSegment, IsSpellable, Tells};
+ghost use Rattle.oc_model.specs.Spelling.{catalog_bytes, entry_fits, extent_bytes, index_bytes, is_extent, is_indexed, is_small, record_bytes, segment_bytes, value_bytes, IsCatalog, IsSegment, IsSpellable, Tells};
 ghost use Rattle.oc_model.specs.Values.{fits};
 
 /// The length that is reckoned for a record is the number of its bytes, where its values are of their kinds.
@@ -25,4 +26,11 @@ pub fn record_bytes_tell()
 pub fn segment_bytes_tell()
     ensures extents { Tells (IsSegment is_extent) (segment_bytes (λ e. extent_bytes e.0 e.1)) }
     ensures index { (b : Base) → Tells (IsSegment (is_indexed b)) (segment_bytes (λ e. index_bytes b e.0 e.1)) }
+{}
+
+/// The bytes of a catalog tell the next number, the schema and the lists, whatever stands behind them. So two catalogs of the same bytes are one.
+pub fn catalog_bytes_tell()
+    ensures catalogs { Tells (λ (c : ℕ × Schema × List (ℕ × List ℕ)). IsCatalog c.0 c.1 c.2) (λ c. catalog_bytes c.0 c.1 c.2) }
+    ensures same { (m n : ℕ) (s t : Schema) (ls ks : List (ℕ × List ℕ))
+        → IsCatalog m s ls → IsCatalog n t ks → catalog_bytes m s ls ≡ catalog_bytes n t ks → (m ≡ n) × (s ≡ t) × (ls ≡ ks) }
 {}
