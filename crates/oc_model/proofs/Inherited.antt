@@ -16,7 +16,7 @@ use Rattle.oc_model.proofs.NewClass.{IsEarlier, no_fields}
 -- ---- the fields of a class below
 
 -- more fuel than the class's number changes nothing
-fields_same : (m n c : ℕ) (s : Schema) → IsEarlier s → c ≤ m → c ≤ n → fields_within m s c ≡ fields_within n s c
+pub fields_same : (m n c : ℕ) (s : Schema) → IsEarlier s → c ≤ m → c ≤ n → fields_within m s c ≡ fields_within n s c
 fields_same m n zero s e p q = no_fields m s ∙ sym (no_fields n s)
 fields_same zero n (suc c) s e p q = absurd (omega arith)
 fields_same (suc m) zero (suc c) s e p q = absurd (omega arith)
@@ -24,7 +24,7 @@ fields_same (suc m) (suc n) (suc c) s e p q =
     let up = e c in
     ap (λ fields. fields ++ own_fields (class_at s (suc c))) (fields_same m n (parent_of (class_at s (suc c))) s e (omega arith) (omega arith))
 
-parent_below : (n a : ℕ) (s : Schema) → IsEarlier s → a ≤ suc n → parent_of (class_at s a) ≤ n
+pub parent_below : (n a : ℕ) (s : Schema) → IsEarlier s → a ≤ suc n → parent_of (class_at s a) ≤ n
 parent_below n zero s e p = omega arith
 parent_below n (suc a) s e p = let up = e a in omega arith
 

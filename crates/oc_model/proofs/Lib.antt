@@ -16,6 +16,7 @@ mod Fitting
 mod Fronts
 mod Inherited
 mod Lengths
+mod NewChild
 mod NewClass
 mod PastFields
 mod Rules

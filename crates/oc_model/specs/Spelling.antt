@@ -1,4 +1,4 @@
--- The bytes of a record, of the entries of lists, and of the catalog. Numbers stand with their highest byte first.
+-- The bytes of a record, of the entries of lists, and of the catalog, and which of them a file can hold. Numbers stand with their highest byte first.
 use Rattle.std.specs.Prelude.{◌≡◌, ◌^◌, ℕ, ◌+◌, ◌&&◌, nat_lt, nat_le, Bool, true, IsTrue, List, [], ◌∷◌, ◌++◌, flat_map, length, Some, None, if◌then◌else◌}
 use Rattle.std.specs.List.{list_all}
 use Rattle.std.specs.Int.{Width, w16, w32, w128, to_be_bytes, bytes_high_first, cast_unsigned}
