@@ -22,3 +22,4 @@ mod PastFields
 mod Rules
 mod SchemaLaws
 mod Told
+mod Written

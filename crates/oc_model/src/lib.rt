@@ -13,6 +13,7 @@ pub mod laws_orders;
 pub mod laws_queries;
 pub mod laws_schemas;
 pub mod laws_spelling;
+pub mod laws_stores;
 pub mod laws_walks;
 pub mod query;
 pub mod reach;
