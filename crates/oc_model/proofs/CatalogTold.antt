@@ -11,6 +11,7 @@ use Rattle.oc_model.specs.Kinds.{kind_tag}
 use Rattle.oc_model.specs.Schemas.{Schema}
 use Rattle.oc_model.specs.SchemaRules.{keeps_rules, all_fields}
 use Rattle.oc_model.specs.Spelling.{Tells, counted, name_bytes, field_flags, field_bytes, class_bytes, list_bytes, catalog_bytes, is_word, is_list, IsCatalog}
+use Rattle.oc_model.proofs.Elements.{weaker}
 use Rattle.oc_model.proofs.Fronts.{first_same, rest_same, fronts_same, word_same, short_same}
 use Rattle.oc_model.proofs.Rules.{rules_kept, limits_kept}
 use Rattle.oc_model.proofs.Told.{all_both, counted_told, kind_told}
@@ -88,10 +89,6 @@ list_told k l rest more p q e =
     (λ i. (ids.0 i, numbers.0 i), numbers.1)
 
 -- ---- the rules of a schema keep its numbers small
-
-weaker : {X : Type 0} (p q : X → Bool) → ((x : X) → p x ≡ true → q x ≡ true) → (xs : List X) → list_all p xs ≡ true → list_all q xs ≡ true
-weaker p q each [] h = refl
-weaker p q each (x ∷ xs) h = let r = and_parts (p x) (list_all p xs) h in and_from _ _ (each x r.0) (weaker p q each xs r.1)
 
 -- parents that come earlier
 parents_small : (m : ℕ) (cs : List ClassDef) → m + length cs ≤ 65536 → list_all (λ (e : ℕ × ClassDef). nat_lt (e.1).parent e.0) (enumerate_from m cs) ≡ true → list_all (λ (c : ClassDef). is_word c.parent) cs ≡ true

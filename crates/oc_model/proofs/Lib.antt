@@ -21,5 +21,6 @@ mod NewClass
 mod PastFields
 mod Rules
 mod SchemaLaws
+mod Spellable
 mod Told
 mod Written

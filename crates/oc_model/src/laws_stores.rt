@@ -1,14 +1,18 @@
 //! Laws of the rules of a store.
 
-ghost use Rattle.std.specs.Prelude.{ℕ, ◌≤◌, ◌<◌, List, IsTrue};
+ghost use Rattle.std.specs.Prelude.{ℕ, ◌≤◌, ◌<◌, nat_le, List, flat_map, IsTrue};
+ghost use Rattle.std.specs.List.{list_all};
 ghost use Rattle.oc_model.specs.declared.schema.FieldDef.{FieldDef};
 ghost use Rattle.oc_model.specs.declared.value.Entry.{Entry};
 ghost use Rattle.oc_model.specs.declared.value.Rec.{Rec};
 ghost use Rattle.oc_model.specs.Lists.{IsOneOf};
 ghost use Rattle.oc_model.specs.Maps.{with_at};
+ghost use Rattle.oc_model.specs.References.{refs_in};
+ghost use Rattle.oc_model.specs.SchemaRules.{keeps_rules};
 ghost use Rattle.oc_model.specs.Schemas.{Schema, fields_of};
+ghost use Rattle.oc_model.specs.Spelling.{IsSpellable};
 ghost use Rattle.oc_model.specs.StoreRules.{KeepsStore, Suits};
-ghost use Rattle.oc_model.specs.Stores.{Store, empty_store, value_in, written};
+ghost use Rattle.oc_model.specs.Stores.{Store, empty_store, record_len, value_in, written};
 ghost use Rattle.oc_model.specs.Values.{fits};
 
 /// The store of a new container keeps the rules.
@@ -28,4 +32,10 @@ pub fn store_with_record_keeps_rules()
     ensures { (s : Store) (n next : ℕ) (r : Rec)
         → KeepsStore s → Suits s.schema r → 1 ≤ n → n < next → s.next ≤ next → next ≤ 2147483647
         → KeepsStore (record { schema = s.schema; next = next; records = with_at s.records n r }) }
+{}
+
+/// A record that suits a schema can be spelled, where it takes at most 262,144 bytes and its references are at most 2,147,483,646.
+pub fn suited_record_is_spellable()
+    ensures { (s : Schema) (r : Rec) → IsTrue (keeps_rules s) → Suits s r → record_len r ≤ 262144
+        → IsTrue (list_all (λ n. nat_le n 2147483646) (flat_map (λ (e : Entry). refs_in e.value) r.entries)) → IsSpellable r }
 {}
