@@ -34,7 +34,7 @@ pub fn store_with_record_keeps_rules()
         → KeepsStore (record { schema = s.schema; next = next; records = with_at s.records n r }) }
 {}
 
-/// A record that suits a schema can be spelled, where it takes at most 262,144 bytes and its references are at most 2,147,483,646.
+/// A record that suits a schema with its rules kept can be spelled, where it takes at most 262,144 bytes and its references are at most 2,147,483,646.
 pub fn suited_record_is_spellable()
     ensures { (s : Schema) (r : Rec) → IsTrue (keeps_rules s) → Suits s r → record_len r ≤ 262144
         → IsTrue (list_all (λ n. nat_le n 2147483646) (flat_map (λ (e : Entry). refs_in e.value) r.entries)) → IsSpellable r }
