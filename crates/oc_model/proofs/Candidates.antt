@@ -3,7 +3,7 @@ use Rattle.std.proofs.Common.{◌≡◌, refl, sym, ap, ◌∙◌, subst, ℕ, B
 use Rattle.std.specs.Prelude.{filter_map, if◌then◌else◌}
 use Rattle.std.specs.Option.{option_and_then}
 use Rattle.std.specs.List.{list_any, list_all, cons_option}
-use Rattle.std.proofs.lemmas.Bool.{and_parts, and_from}
+use Rattle.std.proofs.lemmas.Bool.{and_parts, and_from, not-true}
 use Rattle.std.proofs.lemmas.List.Folds.{list_all-append}
 use Rattle.oc_model.specs.declared.value.Atom.{Atom}
 use Rattle.oc_model.specs.declared.value.Atom.TheVariants as atom
@@ -26,9 +26,10 @@ use Rattle.oc_model.proofs.Elements.{any_passes, is_among, from_filter, to_filte
 use Rattle.oc_model.proofs.Reaching.{is_equal}
 use Rattle.oc_model.proofs.Orders.{alike}
 use Rattle.oc_model.proofs.NewClass.{is_earlier}
+use Rattle.oc_model.proofs.Rules.{rules_kept}
 use Rattle.oc_model.proofs.SchemaLaws.{same_number}
 use Rattle.oc_model.proofs.Inherited.{named_below, named_is_one}
-use Rattle.oc_model.proofs.Fitting.{rules_used, single_is, record_is_one, value_fits}
+use Rattle.oc_model.proofs.Fitting.{single_is, record_is_one, value_fits}
 
 -- ---- a dangling reference, which reads as null, passes no test that an index answers
 
@@ -78,14 +79,10 @@ indexed_is s c name f h =
       | None ↦ λ e h. absurd (cc)
       | Some g ↦ λ e h.
           (elim (g.indexed && not (is_array g.kind)) as (λ t. (g.indexed && not (is_array g.kind)) ≡ t → (if t then Some g else None) ≡ Some f → (field_named s c name ≡ Some f) × (is_array f.kind ≡ false)) [
-            | true ↦ λ t h. let q : g ≡ f = cc in (e ∙ ap Some q, sym (ap (λ (k : FieldDef). is_array k.kind) q) ∙ not_true _ (and_parts _ _ t).1)
+            | true ↦ λ t h. let q : g ≡ f = cc in (e ∙ ap Some q, sym (ap (λ (k : FieldDef). is_array k.kind) q) ∙ not-true _ (and_parts _ _ t).1)
             | false ↦ λ t h. absurd (cc)
           ]) refl h
     ]) refl h
-  where
-    not_true : (b : Bool) → not b ≡ true → b ≡ false
-    not_true true h = sym h
-    not_true false h = refl
 
 values_are : (s : Store) (n : ℕ) (r : Rec) (name : Text) (f : FieldDef) (a : Atom) → at s.records n ≡ Some r → field_named s.schema r.class name ≡ Some f
     → value_in r.entries f.id f.kind ≡ value.One a → values s (name ∷ []) n ≡ as_read s a ∷ []
@@ -111,12 +108,12 @@ or_false false h = h
 hit : (s : Store) (c n : ℕ) (name : Text) (f : FieldDef) (holds : Atom → Bool) → KeepsStore s → is_of s c n ≡ true → indexed_field s.schema c name ≡ Some f
     → ((a : Atom) → holds (as_read s a) ≡ true → holds a ≡ true) → list_any holds (values s (name ∷ []) n) ≡ true → is_in (hits s (record { field = f; holds = holds })) n ≡ true
 hit s c n name f holds k o x back h =
-    let rules = rules_used s.schema k.schema in
+    let rules = rules_kept s.schema k.schema in
     let r = object_of s c n o in
     let g = indexed_is s.schema c name f x in
-    let below = named_below s.schema (r.0).class c name f (is_earlier s.schema rules.0) r.2 g.0 in
+    let below = named_below s.schema (r.0).class c name f (is_earlier s.schema rules.parents) r.2 g.0 in
     let i = named_is_one s.schema (r.0).class name f below in
-    let v = single_is f.kind (value_in (r.0).entries f.id f.kind) g.1 (value_fits s.schema r.0 f rules.1 (k.suit n r.0 r.1) i) in
+    let v = single_is f.kind (value_in (r.0).entries f.id f.kind) g.1 (value_fits s.schema r.0 f rules.ids (k.suit n r.0 r.1) i) in
     let read : holds (as_read s v.0) ≡ true = or_false _ (sym (ap (list_any holds) (values_are s n r.0 name f v.0 r.1 below v.1)) ∙ h) in
     is_among n _ (to_map (λ (e : Atom × ℕ). e.1) (v.0, n) _ (to_filter (λ (e : Atom × ℕ). holds e.0) (v.0, n) (index_of s f) (in_index s n r.0 f v.0 r.1 i v.1) (back v.0 read)))
 

@@ -1,6 +1,7 @@
 -- Elements of lists, and tests of all elements.
 use Rattle.std.proofs.Common.{◌≡◌, ℕ, Bool, true, false, cond, ◌&&◌, ◌||◌, List, [], ◌∷◌, ◌++◌, Some, ◌+◌, map, filter, flat_map, ◌⊎◌, inl, inr, refl, sym, ap, ◌∙◌, subst, true≢false, arith}
 use Rattle.std.specs.List.{list_all, list_any, find, enumerate_from}
+use Rattle.std.proofs.lemmas.Bool.{and_from}
 use Rattle.std.proofs.lemmas.Bool.Decides.{nat_tests}
 use Rattle.oc_model.specs.Lists.{IsOneOf}
 use Rattle.oc_model.specs.Maps.{is_in}
@@ -56,6 +57,11 @@ all_pass p x [] h i = absurd i
 all_pass p x (y ∷ xs) h i =
     let r = both_true (p y) (list_all p xs) h in elim i as (λ _. p x ≡ true) [ inl e ↦ ap p e ∙ r.0 | inr t ↦ all_pass p x xs r.1 t ]
 
+-- of a test that follows from the other
+pub weaker : {X : Type 0} (p q : X → Bool) → ((x : X) → p x ≡ true → q x ≡ true) → (xs : List X) → list_all p xs ≡ true → list_all q xs ≡ true
+weaker p q each [] h = refl
+weaker p q each (x ∷ xs) h = let r = both_true (p x) (list_all p xs) h in and_from _ _ (each x r.0) (weaker p q each xs r.1)
+
 -- some element fails, where not all pass
 pub some_fails : {X : Type 0} (p : X → Bool) (xs : List X) → list_all p xs ≡ false → (x : X) × IsOneOf x xs × (p x ≡ false)
 some_fails p [] h = absurd (true≢false h)
@@ -77,7 +83,7 @@ some_passes p (y ∷ xs) h =
 or_left : (a b : Bool) → a ≡ true → (a || b) ≡ true
 or_left a b h = ap (λ c. c || b) h
 
-or_right : (a b : Bool) → b ≡ true → (a || b) ≡ true
+pub or_right : (a b : Bool) → b ≡ true → (a || b) ≡ true
 or_right true b h = refl
 or_right false b h = h
 

@@ -18,7 +18,7 @@ use Rattle.oc_model.specs.Lists.{IsOneOf}
 use Rattle.oc_model.specs.Values.{fits, default}
 use Rattle.oc_model.specs.Kinds.{is_array}
 use Rattle.oc_model.specs.Schemas.{Schema, fields_of}
-use Rattle.oc_model.specs.SchemaRules.{keeps_rules, is_within_limits, has_earlier_parents, has_distinct_ids, has_drawn_ids, has_ordered_fields, has_no_past_index, has_no_array_index, all_fields}
+use Rattle.oc_model.specs.SchemaRules.{has_distinct_ids, all_fields}
 use Rattle.oc_model.specs.Stores.{value_in}
 use Rattle.oc_model.specs.Spelling.{entry_fits}
 use Rattle.oc_model.specs.StoreRules.{known_fields, is_under, is_known, Suits}
@@ -26,21 +26,6 @@ use Rattle.oc_model.proofs.Elements.{all_pass, some_passes, found_in}
 use Rattle.oc_model.proofs.Reaching.{is_equal}
 use Rattle.oc_model.proofs.SchemaLaws.{equal_kinds}
 use Rattle.oc_model.proofs.Inherited.{current_in_all, known_in_all, apart_same}
-
--- ---- two of the rules of a schema
-
-pub rules_used : (s : Schema) → keeps_rules s ≡ true → (has_earlier_parents s ≡ true) × (has_distinct_ids s ≡ true)
-unfolding keeps_rules
-rules_used s h =
-    let limits = and_parts _ (is_within_limits s) h in
-    let arrays = and_parts _ (has_no_array_index s) limits.0 in
-    let past = and_parts _ (has_no_past_index s) arrays.0 in
-    let order = and_parts _ (has_ordered_fields s) past.0 in
-    let drawn = and_parts _ (has_drawn_ids s) order.0 in
-    let ids = and_parts _ (has_distinct_ids s) drawn.0 in
-    let names = and_parts _ _ ids.0 in
-    let parents = and_parts _ (has_earlier_parents s) names.0 in
-    (parents.1, ids.1)
 
 -- ---- values of kinds
 

@@ -1,9 +1,10 @@
 -- Two lists that begin with the same bytes.
-use Rattle.std.proofs.Common.{◌≡◌, refl, sym, ap, ◌∙◌, ℕ, zero, suc, ◌+◌, ◌*◌, ◌^◌, ◌%◌, ◌<◌, List, ◌∷◌, ◌++◌, length, take, drop, fold, arith, pow-suc, mul_comm}
+use Rattle.std.proofs.Common.{◌≡◌, sym, ap, ◌∙◌, ℕ, zero, suc, ◌+◌, ◌*◌, ◌^◌, ◌%◌, ◌<◌, List, ◌∷◌, ◌++◌, length, take, drop, fold, arith, pow-suc, mul_comm}
 use Rattle.std.specs.Int.{byte_at, bytes_high_first}
 use Rattle.std.proofs.Math.Nat.{pow-le-pow_right}
 use Rattle.std.proofs.Math.Arith.{mod-mul}
 use Rattle.std.proofs.Math.Seq.{take-append_seam, drop-append_seam}
+use Rattle.oc_model.proofs.Lengths.{length-bytes_high_first}
 
 pub first_same : {X : Type 0} (a b : X) (xs ys : List X) → a ∷ xs ≡ b ∷ ys → a ≡ b
 first_same a b xs ys e = cc
@@ -19,10 +20,6 @@ fronts_same xs ys rest more len e = (
 )
 
 -- ---- numbers
-
-pub length-high_first : (k n : ℕ) → length (bytes_high_first k n) ≡ k
-length-high_first zero n = refl
-length-high_first (suc k) n = omega (arith, length-high_first k n)
 
 -- one more byte in front of the low k bytes
 byte_on : (k n high : ℕ) → (high * 256 + byte_at k n) * 256 ^ k + n % 256 ^ k ≡ high * 256 ^ suc k + n % 256 ^ suc k
@@ -43,7 +40,7 @@ low_bytes k n = bytes_read k n 0 ∙ omega arith
 -- the bytes tell the number as far as they go
 pub low_same : (k m n : ℕ) (rest more : List ℕ) → bytes_high_first k m ++ rest ≡ bytes_high_first k n ++ more → (m % 256 ^ k ≡ n % 256 ^ k) × (rest ≡ more)
 low_same k m n rest more e =
-    let f = fronts_same (bytes_high_first k m) (bytes_high_first k n) rest more (length-high_first k m ∙ sym (length-high_first k n)) e in
+    let f = fronts_same (bytes_high_first k m) (bytes_high_first k n) rest more (length-bytes_high_first k m ∙ sym (length-bytes_high_first k n)) e in
     (sym (low_bytes k m) ∙ ap (fold (λ h byte. h * 256 + byte) 0) f.0 ∙ low_bytes k n, f.1)
 
 pub short_same : (m n : ℕ) (rest more : List ℕ) → m < 2 ^ 16 → n < 2 ^ 16 → bytes_high_first 2 m ++ rest ≡ bytes_high_first 2 n ++ more → (m ≡ n) × (rest ≡ more)

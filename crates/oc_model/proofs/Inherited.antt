@@ -1,7 +1,7 @@
 -- The fields of a class are those of an ancestor and more, and all of them are fields of the schema.
-use Rattle.std.proofs.Common.{◌≡◌, refl, sym, ap, ◌∙◌, subst, ℕ, zero, suc, ◌≤◌, inl, inr, Bool, true, false, not, ◌||◌, ◌==◌, List, [], ◌∷◌, ◌++◌, Some, None, slice_get, map, find, append-nil, append_assoc, true≢false, arith}
+use Rattle.std.proofs.Common.{◌≡◌, refl, sym, ap, ◌∙◌, subst, ℕ, zero, suc, ◌≤◌, inl, inr, true, false, ◌||◌, ◌==◌, List, [], ◌∷◌, ◌++◌, Some, None, slice_get, map, find, append-nil, append_assoc, true≢false, arith}
 use Rattle.std.specs.Option.{option_or}
-use Rattle.std.proofs.lemmas.Bool.{and_parts, eqb-true}
+use Rattle.std.proofs.lemmas.Bool.{and_parts, eqb-true, not-true}
 use Rattle.std.proofs.lemmas.List.Folds.{find-append}
 use Rattle.oc_model.specs.declared.schema.FieldDef.{FieldDef}
 use Rattle.oc_model.specs.declared.schema.ClassDef.{ClassDef}
@@ -16,7 +16,7 @@ use Rattle.oc_model.proofs.NewClass.{IsEarlier, no_fields}
 -- ---- the fields of a class below
 
 -- more fuel than the class's number changes nothing
-fields_same : (m n c : ℕ) (s : Schema) → IsEarlier s → c ≤ m → c ≤ n → fields_within m s c ≡ fields_within n s c
+pub fields_same : (m n c : ℕ) (s : Schema) → IsEarlier s → c ≤ m → c ≤ n → fields_within m s c ≡ fields_within n s c
 fields_same m n zero s e p q = no_fields m s ∙ sym (no_fields n s)
 fields_same zero n (suc c) s e p q = absurd (omega arith)
 fields_same (suc m) zero (suc c) s e p q = absurd (omega arith)
@@ -24,7 +24,7 @@ fields_same (suc m) (suc n) (suc c) s e p q =
     let up = e c in
     ap (λ fields. fields ++ own_fields (class_at s (suc c))) (fields_same m n (parent_of (class_at s (suc c))) s e (omega arith) (omega arith))
 
-parent_below : (n a : ℕ) (s : Schema) → IsEarlier s → a ≤ suc n → parent_of (class_at s a) ≤ n
+pub parent_below : (n a : ℕ) (s : Schema) → IsEarlier s → a ≤ suc n → parent_of (class_at s a) ≤ n
 parent_below n zero s e p = omega arith
 parent_below n (suc a) s e p = let up = e a in omega arith
 
@@ -94,15 +94,11 @@ known_in_all f s c h =
 not_in : (n : ℕ) (ns : List ℕ) → IsOneOf n ns → is_in ns n ≡ false → ⊥
 not_in n ns h e = true≢false (sym (is_among n ns h) ∙ e)
 
-not_true : (b : Bool) → not b ≡ true → b ≡ false
-not_true true h = sym h
-not_true false h = refl
-
 pub apart_same : (f g : FieldDef) (fs : List FieldDef) → are_apart (map (λ h. h.id) fs) ≡ true → IsOneOf f fs → IsOneOf g fs → f.id ≡ g.id → f ≡ g
 apart_same f g [] a p q e = absurd p
 apart_same f g (h ∷ fs) a p q e =
     let r = and_parts _ _ a in
-    let other : (k : FieldDef) → IsOneOf k fs → k.id ≡ h.id → ⊥ = λ k i d. not_in h.id (map (λ (m : FieldDef). m.id) fs) (subst (λ n. IsOneOf n (map (λ (m : FieldDef). m.id) fs)) d (to_map (λ (m : FieldDef). m.id) k fs i)) (not_true _ r.0) in
+    let other : (k : FieldDef) → IsOneOf k fs → k.id ≡ h.id → ⊥ = λ k i d. not_in h.id (map (λ (m : FieldDef). m.id) fs) (subst (λ n. IsOneOf n (map (λ (m : FieldDef). m.id) fs)) d (to_map (λ (m : FieldDef). m.id) k fs i)) (not-true _ r.0) in
     elim p as (λ _. f ≡ g) [
       | inl x ↦ (elim q as (λ _. f ≡ g) [ inl y ↦ x ∙ sym y | inr t ↦ absurd (other g t (sym e ∙ ap (λ (m : FieldDef). m.id) x)) ])
       | inr u ↦ (elim q as (λ _. f ≡ g) [ inl y ↦ absurd (other f u (e ∙ ap (λ (m : FieldDef). m.id) y)) | inr t ↦ apart_same f g fs r.1 u t e ])

@@ -19,7 +19,7 @@ use Rattle.oc_model.specs.Values.{fits, fits_base}
 use Rattle.oc_model.specs.Stores.{base_of, atom_len, value_len, entry_len, record_len}
 use Rattle.oc_model.specs.Spelling.{counted, atom_bytes, value_bytes, entry_bytes, record_bytes, entry_fits}
 
-length-bytes_high_first : (k n : ℕ) → length (bytes_high_first k n) ≡ k
+pub length-bytes_high_first : (k n : ℕ) → length (bytes_high_first k n) ≡ k
 length-bytes_high_first zero n = refl
 length-bytes_high_first (suc k) n = omega (arith, length-bytes_high_first k n)
 

@@ -9,16 +9,21 @@ pub mod Meeting
 pub mod Parts
 pub mod MapLaws
 mod Candidates
+mod CatalogTold
 mod Conversions
 mod Decimals
 mod Fitting
 mod Fronts
 mod Inherited
 mod Lengths
+mod NewChild
 mod NewClass
 mod PastFields
+mod Rules
 mod SchemaLaws
 mod Nodes
 mod StateWalks
 mod Told
 mod States
+mod Spellable
+mod Written

@@ -1,16 +1,15 @@
--- A class more: what is known of the others stays, and the limits ask for the new one alone.
-use Rattle.std.proofs.Common.{◌≡◌, refl, ap, ◌∙◌, subst, ℕ, zero, suc, ◌+◌, ◌<◌, ◌≤◌, Bool, true, false, not, ◌&&◌, ◌||◌, ◌==◌, nat_lt, nat_le, List, [], ◌∷◌, ◌++◌, length, filter, slice_get, Some, cond, arith, append-nil}
+-- A class more: what is known of the others stays.
+use Rattle.std.proofs.Common.{◌≡◌, refl, ap, ◌∙◌, ℕ, zero, suc, ◌+◌, ◌<◌, ◌≤◌, Bool, true, false, not, ◌&&◌, ◌||◌, ◌==◌, nat_lt, nat_le, List, [], ◌∷◌, ◌++◌, length, filter, slice_get, Some, cond, arith, append-nil}
 use Rattle.std.specs.List.{list_all, enumerate_from}
-use Rattle.std.proofs.lemmas.Bool.{and_parts, and_left, and_right, ltb-true, ne_eqb}
+use Rattle.std.proofs.lemmas.Bool.{and_parts, and_right, ltb-true, ne_eqb}
 use Rattle.std.proofs.lemmas.Bool.Decides.{nat_tests}
 use Rattle.std.proofs.lemmas.List.Folds.{list_all-append}
 use Rattle.std.proofs.lemmas.List.Elements.{filter-append}
 use Rattle.oc_model.specs.declared.schema.ClassDef.{ClassDef}
 use Rattle.oc_model.specs.declared.command.Decl.{Decl}
-use Rattle.oc_model.specs.Maps.{Text}
 use Rattle.oc_model.specs.Schemas.{Schema, class_at, parent_of, own_fields, current, fields_within, below_within, fields_of, is_sub}
-use Rattle.oc_model.specs.SchemaRules.{is_above, ancestors, has_earlier_parents, has_few_classes, has_few_ancestors, has_few_fields, has_few_own_fields, has_few_ids, is_within_limits}
-use Rattle.oc_model.specs.SchemaSteps.{declared_fields, with_new_class}
+use Rattle.oc_model.specs.SchemaRules.{is_above, ancestors, has_earlier_parents, has_few_classes, has_few_own_fields}
+use Rattle.oc_model.specs.SchemaSteps.{declared_fields}
 
 -- ---- parents come earlier
 
@@ -35,7 +34,7 @@ is_earlier s h c = let a = strictly_in 1 s.classes (omega arith) h c in omega ar
 -- ---- the classes that were there
 
 -- with a class behind the others
-abbrev grown : Schema → ClassDef → ℕ → Schema
+abbrev pub grown : Schema → ClassDef → ℕ → Schema
 grown s d k = record { classes = s.classes ++ d ∷ []; next_field = k }
 
 within_old : (cs : List ClassDef) (d : ClassDef) (i : ℕ) → i < length cs → slice_get (cs ++ d ∷ []) i ≡ slice_get cs i
@@ -43,7 +42,7 @@ within_old [] d i h = absurd (omega arith)
 within_old (c ∷ cs) d zero h = refl
 within_old (c ∷ cs) d (suc i) h = within_old cs d i (omega arith)
 
-at_the_end : (cs : List ClassDef) (d : ClassDef) → slice_get (cs ++ d ∷ []) (length cs) ≡ Some d
+pub at_the_end : (cs : List ClassDef) (d : ClassDef) → slice_get (cs ++ d ∷ []) (length cs) ≡ Some d
 at_the_end [] d = refl
 at_the_end (c ∷ cs) d = at_the_end cs d
 
@@ -51,7 +50,7 @@ pub no_fields : (n : ℕ) (s : Schema) → fields_within n s 0 ≡ []
 no_fields zero s = refl
 no_fields (suc n) s = ap (λ fields. fields ++ []) (no_fields n s)
 
-fields_kept : (n : ℕ) (s : Schema) (d : ClassDef) (k c : ℕ) → IsEarlier s → c ≤ length s.classes → fields_within n (grown s d k) c ≡ fields_within n s c
+pub fields_kept : (n : ℕ) (s : Schema) (d : ClassDef) (k c : ℕ) → IsEarlier s → c ≤ length s.classes → fields_within n (grown s d k) c ≡ fields_within n s c
 fields_kept zero s d k c e h = refl
 fields_kept (suc n) s d k zero e h = ap (λ fields. fields ++ []) (fields_kept n s d k 0 e h)
 fields_kept (suc n) s d k (suc c) e h =
@@ -59,7 +58,7 @@ fields_kept (suc n) s d k (suc c) e h =
     let b = fields_kept n s d k (parent_of (class_at s (suc c))) e (let q = e c in omega arith) in
     ap (λ o. fields_within n (grown s d k) (parent_of o) ++ own_fields o) a ∙ ap (λ fields. fields ++ own_fields (slice_get s.classes c)) b
 
-below_kept : (n : ℕ) (s : Schema) (d : ClassDef) (k a b : ℕ) → IsEarlier s → a ≤ length s.classes → below_within n (grown s d k) a b ≡ below_within n s a b
+pub below_kept : (n : ℕ) (s : Schema) (d : ClassDef) (k a b : ℕ) → IsEarlier s → a ≤ length s.classes → below_within n (grown s d k) a b ≡ below_within n s a b
 below_kept zero s d k a b e h = refl
 below_kept (suc n) s d k zero b e h = ap (λ r. 0 == b || r) (below_kept n s d k 0 b e h)
 below_kept (suc n) s d k (suc a) b e h =
@@ -75,27 +74,27 @@ below_no_later (suc n) s (suc a) b e h =
     ap (λ r. r || below_within n s (parent_of (class_at s (suc a))) b) (ne_eqb (suc a) b (λ q. omega arith)) ∙ below_no_later n s (parent_of (class_at s (suc a))) b e (let p = e a in omega arith)
 
 -- no class is class 0
-below_nothing : (n : ℕ) (s : Schema) (b : ℕ) → 0 < b → below_within n s 0 b ≡ false
+pub below_nothing : (n : ℕ) (s : Schema) (b : ℕ) → 0 < b → below_within n s 0 b ≡ false
 below_nothing zero s b h = refl
 below_nothing (suc n) s b h = ap (λ r. r || below_within n s 0 b) (ne_eqb 0 b (λ q. omega arith)) ∙ below_nothing n s b h
 
 -- ---- lists with their numbers
 
-enumerated : (n : ℕ) (cs : List ClassDef) (d : ClassDef) → enumerate_from n (cs ++ d ∷ []) ≡ enumerate_from n cs ++ (n + length cs, d) ∷ []
+pub enumerated : (n : ℕ) (cs : List ClassDef) (d : ClassDef) → enumerate_from n (cs ++ d ∷ []) ≡ enumerate_from n cs ++ (n + length cs, d) ∷ []
 enumerated n [] d = ap (λ m. (m, d) ∷ []) (omega arith)
 enumerated n (c ∷ cs) d = ap (λ es. (n, c) ∷ es) (enumerated (n + 1) cs d ∙ ap (λ m. enumerate_from (n + 1) cs ++ (m, d) ∷ []) (omega arith))
 
 -- tests that say the same of each number that is there
-all_kept : (f g : ℕ × ClassDef → Bool) (n : ℕ) (cs : List ClassDef) → ((m : ℕ) (c : ClassDef) → n ≤ m → m < n + length cs → f (m, c) ≡ g (m, c)) → list_all f (enumerate_from n cs) ≡ list_all g (enumerate_from n cs)
+pub all_kept : (f g : ℕ × ClassDef → Bool) (n : ℕ) (cs : List ClassDef) → ((m : ℕ) (c : ClassDef) → n ≤ m → m < n + length cs → f (m, c) ≡ g (m, c)) → list_all f (enumerate_from n cs) ≡ list_all g (enumerate_from n cs)
 all_kept f g n [] h = refl
 all_kept f g n (c ∷ cs) h = λ i. h n c (omega arith) (omega arith) i && all_kept f g (n + 1) cs (λ m b p q. h m b (omega arith) (omega arith)) i
 
-kept_by_both : (f g : ℕ × ClassDef → Bool) (n : ℕ) (cs : List ClassDef) → ((m : ℕ) (c : ClassDef) → n ≤ m → m < n + length cs → f (m, c) ≡ g (m, c)) → filter f (enumerate_from n cs) ≡ filter g (enumerate_from n cs)
+pub kept_by_both : (f g : ℕ × ClassDef → Bool) (n : ℕ) (cs : List ClassDef) → ((m : ℕ) (c : ClassDef) → n ≤ m → m < n + length cs → f (m, c) ≡ g (m, c)) → filter f (enumerate_from n cs) ≡ filter g (enumerate_from n cs)
 kept_by_both f g n [] h = refl
 kept_by_both f g n (c ∷ cs) h =
     λ i. let rest = kept_by_both f g (n + 1) cs (λ m b p q. h m b (omega arith) (omega arith)) i in cond (h n c (omega arith) (omega arith) i) ((n, c) ∷ rest) rest
 
-kept_by_none : (f : ℕ × ClassDef → Bool) (n : ℕ) (cs : List ClassDef) → ((m : ℕ) (c : ClassDef) → n ≤ m → m < n + length cs → f (m, c) ≡ false) → filter f (enumerate_from n cs) ≡ []
+pub kept_by_none : (f : ℕ × ClassDef → Bool) (n : ℕ) (cs : List ClassDef) → ((m : ℕ) (c : ClassDef) → n ≤ m → m < n + length cs → f (m, c) ≡ false) → filter f (enumerate_from n cs) ≡ []
 kept_by_none f n [] h = refl
 kept_by_none f n (c ∷ cs) h = let rest = kept_by_none f (n + 1) cs (λ m b p q. h m b (omega arith) (omega arith)) in λ i. cond (h n c (omega arith) (omega arith) i) ((n, c) ∷ rest i) (rest i)
 
@@ -112,102 +111,30 @@ ancestors_kept s d k c e p h =
     ∙ (λ i. old i ++ cond (and_right (not (1 + n == c)) _ late i) ((1 + n, d) ∷ []) [])
     ∙ append-nil (ancestors s c)
 
-equal_test : (a b : ℕ) → a ≡ b → (a == b) ≡ true
-equal_test a b e = grind (arith, nat_tests)
-
--- The new class has no parent, so it is below none of the others.
-below_none : (s : Schema) (d : ClassDef) (k b : ℕ) → d.parent ≡ 0 → 1 ≤ b → b ≤ length s.classes → below_within (suc (length s.classes)) (grown s d k) (suc (length s.classes)) b ≡ false
-below_none s d k b z p h =
-    let n = length s.classes in
-    ap (λ r. r || below_within n (grown s d k) (parent_of (slice_get (s.classes ++ d ∷ []) n)) b) (ne_eqb (suc n) b (λ q. omega arith))
-    ∙ ap (λ q. below_within n (grown s d k) q b) (ap parent_of (at_the_end s.classes d) ∙ z)
-    ∙ below_nothing n (grown s d k) b p
-
-no_ancestors : (s : Schema) (d : ClassDef) (k : ℕ) → d.parent ≡ 0 → ancestors (grown s d k) (suc (length s.classes)) ≡ []
-unfolding is_sub
-no_ancestors s d k z =
-    let n = length s.classes in
-    let t = grown s d k in
-    let itself = and_left _ (is_sub t (suc n) (1 + n)) (ap not (equal_test (1 + n) (suc n) (omega arith))) in
-    ap (filter (λ e. is_above t e.0 (suc n))) (enumerated 1 s.classes d)
-    ∙ filter-append (λ e. is_above t e.0 (suc n)) (enumerate_from 1 s.classes) ((1 + n, d) ∷ [])
-    ∙ (λ i.
-    kept_by_none (λ e. is_above t e.0 (suc n)) 1 s.classes (λ m c p q. and_right (not (m == suc n)) _ (below_none s d k m z p (omega arith))) i ++ cond (itself i) ((1 + n, d) ∷ []) [])
-
-and_true : (b : Bool) → (b && true) ≡ b
+pub and_true : (b : Bool) → (b && true) ≡ b
 and_true true = refl
 and_true false = refl
 
-few_ancestors : (s : Schema) (d : ClassDef) (k : ℕ) → IsEarlier s → d.parent ≡ 0 → has_few_ancestors (grown s d k) ≡ has_few_ancestors s
-few_ancestors s d k e z =
-    let n = length s.classes in
-    let t = grown s d k in
-    let new = subst (λ c. ancestors t c ≡ []) {x = suc n} {y = 1 + n} (omega arith) (no_ancestors s d k z) in
-    ap (list_all (λ e. nat_le (length (ancestors t e.0)) 32)) (enumerated 1 s.classes d)
-    ∙ list_all-append (λ e. nat_le (length (ancestors t e.0)) 32) (enumerate_from 1 s.classes) ((1 + n, d) ∷ [])
-    ∙ (λ i.
-    all_kept (λ e. nat_le (length (ancestors t e.0)) 32) (λ e. nat_le (length (ancestors s e.0)) 32) 1 s.classes (λ m c p q. ap (λ es. nat_le (length es) 32) (ancestors_kept s d k m e p (omega arith))) i
-    && (nat_le (length (new i)) 32 && true))
-    ∙ and_true (has_few_ancestors s)
-
-fields_of_new : (s : Schema) (d : ClassDef) (k : ℕ) → d.parent ≡ 0 → fields_of (grown s d k) (suc (length s.classes)) ≡ current d.fields
-unfolding fields_of
-fields_of_new s d k z =
-    let n = length s.classes in
-    (λ i. fields_within n (grown s d k) (parent_of (at_the_end s.classes d i)) ++ own_fields (at_the_end s.classes d i))
-    ∙ ap (λ p. fields_within n (grown s d k) p ++ current d.fields) z
-    ∙ ap (λ fields. fields ++ current d.fields) (no_fields n (grown s d k))
-
-fields_of_old : (s : Schema) (d : ClassDef) (k c : ℕ) → IsEarlier s → c ≤ length s.classes → fields_of (grown s d k) c ≡ fields_of s c
+pub fields_of_old : (s : Schema) (d : ClassDef) (k c : ℕ) → IsEarlier s → c ≤ length s.classes → fields_of (grown s d k) c ≡ fields_of s c
 unfolding fields_of
 fields_of_old s d k c e h = fields_kept c s d k c e h
 
-few_fields : (s : Schema) (d : ClassDef) (k : ℕ) → IsEarlier s → d.parent ≡ 0 → has_few_fields (grown s d k) ≡ (has_few_fields s && nat_le (length (current d.fields)) 255)
-few_fields s d k e z =
-    let n = length s.classes in
-    let t = grown s d k in
-    let new = subst (λ c. fields_of t c ≡ current d.fields) {x = suc n} {y = 1 + n} (omega arith) (fields_of_new s d k z) in
-    ap (list_all (λ e. nat_le (length (fields_of t e.0)) 255)) (enumerated 1 s.classes d)
-    ∙ list_all-append (λ e. nat_le (length (fields_of t e.0)) 255) (enumerate_from 1 s.classes) ((1 + n, d) ∷ [])
-    ∙ (λ i.
-    all_kept (λ e. nat_le (length (fields_of t e.0)) 255) (λ e. nat_le (length (fields_of s e.0)) 255) 1 s.classes (λ m c p q. ap (λ fs. nat_le (length fs) 255) (fields_of_old s d k m e (omega arith))) i
-    && and_true (nat_le (length (new i)) 255) i)
-
-few_own_fields : (s : Schema) (d : ClassDef) (k : ℕ) → has_few_own_fields (grown s d k) ≡ (has_few_own_fields s && nat_le (length d.fields) 1000)
+pub few_own_fields : (s : Schema) (d : ClassDef) (k : ℕ) → has_few_own_fields (grown s d k) ≡ (has_few_own_fields s && nat_le (length d.fields) 1000)
 few_own_fields s d k = list_all-append (λ c. nat_le (length c.fields) 1000) s.classes (d ∷ []) ∙ ap (λ b. has_few_own_fields s && b) (and_true (nat_le (length d.fields) 1000))
 
 length_more : (cs : List ClassDef) (d : ClassDef) → length (cs ++ d ∷ []) ≡ suc (length cs)
 length_more [] d = refl
 length_more (c ∷ cs) d = ap suc (length_more cs d)
 
-few_classes : (s : Schema) (d : ClassDef) (k : ℕ) → has_few_classes (grown s d k) ≡ nat_lt (length s.classes) 65535
+pub few_classes : (s : Schema) (d : ClassDef) (k : ℕ) → has_few_classes (grown s d k) ≡ nat_lt (length s.classes) 65535
 few_classes s d k = ap (λ n. nat_le n 65535) (length_more s.classes d) ∙ step (length s.classes) where
   step : (n : ℕ) → nat_le (suc n) 65535 ≡ nat_lt n 65535
   step n = grind (arith, nat_tests)
 
-all_current : (id : ℕ) (ds : List Decl) → length (current (declared_fields [] id ds)) ≡ length ds
+pub all_current : (id : ℕ) (ds : List Decl) → length (current (declared_fields [] id ds)) ≡ length ds
 all_current id [] = refl
 all_current id (d ∷ ds) = ap suc (all_current (id + 1) ds)
 
-as_many : (id : ℕ) (ds : List Decl) → length (declared_fields [] id ds) ≡ length ds
+pub as_many : (id : ℕ) (ds : List Decl) → length (declared_fields [] id ds) ≡ length ds
 as_many id [] = refl
 as_many id (d ∷ ds) = ap suc (as_many (id + 1) ds)
-
-joined : (n k : Bool) (m : ℕ) → (n && true && (true && nat_le m 255) && (true && nat_le m 1000) && k) ≡ (n && nat_le m 255 && k)
-joined n k m = grind (arith, nat_tests)
-
-pub new_class_limits : (s : Schema) (name : Text) (ds : List Decl) → has_earlier_parents s ≡ true → is_within_limits s ≡ true
-    → is_within_limits (with_new_class s name 0 ds) ≡ (nat_lt (length s.classes) 65535 && nat_le (length ds) 255 && nat_le (s.next_field + length ds) 4294967295)
-unfolding is_within_limits
-new_class_limits s name ds earlier limits =
-    let e = is_earlier s earlier in
-    let d : ClassDef = record { name = name; parent = 0; fields = declared_fields [] s.next_field ds } in
-    let k = s.next_field + length ds in
-    let c4 = and_parts _ (has_few_ids s) limits in
-    let c3 = and_parts _ (has_few_own_fields s) c4.0 in
-    let c2 = and_parts _ (has_few_fields s) c3.0 in
-    let c1 = and_parts (has_few_classes s) (has_few_ancestors s) c2.0 in
-    (λ i. few_classes s d k i && few_ancestors s d k e refl i && few_fields s d k e refl i && few_own_fields s d k i && nat_le k 4294967295)
-    ∙ (λ i.
-    nat_lt (length s.classes) 65535 && c1.1 i && (c2.1 i && nat_le (all_current s.next_field ds i) 255) && (c3.1 i && nat_le (as_many s.next_field ds i) 1000) && nat_le k 4294967295)
-    ∙ joined (nat_lt (length s.classes) 65535) (nat_le k 4294967295) (length ds)

@@ -5,6 +5,7 @@ use Rattle.std.proofs.lemmas.Bool.{and_from, ltb-true, ltb-false, le-leb}
 use Rattle.oc_model.specs.declared.schema.FieldDef.{FieldDef}
 use Rattle.oc_model.specs.SchemaSteps.{later_field}
 use Rattle.oc_model.specs.SchemaEquality.{same_field}
+use Rattle.oc_model.proofs.Elements.{or_right}
 use Rattle.oc_model.proofs.SchemaLaws.{same_fields}
 
 equal_ids : (g f : FieldDef) → Some g ≡ Some f → g.id ≤ f.id
@@ -35,17 +36,13 @@ equal_same g f e =
     let q : g ≡ f = ap (λ (o : Option FieldDef). unwrap_or o g) e in
     subst (λ (k : FieldDef). same_field k g ≡ true) q (same_fields g)
 
-or_more : (a b : Bool) → b ≡ true → (a || b) ≡ true
-or_more true b h = refl
-or_more false b h = h
-
 or_between : (a b c : Bool) → (a || c) ≡ true → (a || (b || c)) ≡ true
 or_between true b c h = refl
-or_between false b c h = or_more b c h
+or_between false b c h = or_right b c h
 
 one_of : (b : Bool) (g h f : FieldDef) (fs : List FieldDef) → ((k : FieldDef) → fold later_field (Some k) fs ≡ Some f → (same_field f k || list_any (same_field f) fs) ≡ true)
     → fold later_field (if b then Some h else Some g) fs ≡ Some f → (same_field f g || (same_field f h || list_any (same_field f) fs)) ≡ true
-one_of true g h f fs rest e = or_more (same_field f g) _ (rest h e)
+one_of true g h f fs rest e = or_right (same_field f g) _ (rest h e)
 one_of false g h f fs rest e = or_between (same_field f g) (same_field f h) _ (rest g e)
 
 among : (fs : List FieldDef) (g f : FieldDef) → fold later_field (Some g) fs ≡ Some f → (same_field f g || list_any (same_field f) fs) ≡ true

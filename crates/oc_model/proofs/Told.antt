@@ -220,7 +220,7 @@ entry_told x y rest more f g e =
 
 entries_of : (r : Rec) → IsSpellable r → (length r.entries < 2 ^ 16) × IsTrue (list_all is_entry r.entries)
 entries_of r s =
-    let few = s.few in
+    let few = leb-true (length r.entries) 65535 s.few in
     (omega arith, all_both (λ e. is_id e.id) (λ e. entry_fits e && is_small e.value) r.entries s.ids (all_both entry_fits (λ e. is_small e.value) r.entries s.fits s.small))
 
 pub record_told : Tells IsSpellable record_bytes
@@ -255,8 +255,8 @@ indexed_told b x y rest more f g e =
 
 segment_told : {X : Type 0} (test : X → Bool) (bytes : X → List ℕ) → Tells (λ x. IsTrue (test x)) bytes → Tells (IsSegment test) (segment_bytes bytes)
 segment_told test bytes each xs ys rest more f g e =
-    let a = f.few in
-    let b = g.few in
+    let a = leb-true (length xs) 65535 f.few in
+    let b = leb-true (length ys) 65535 g.few in
     counted_told w16 (λ n. n < 2 ^ 16) short_same test bytes each xs ys rest more (omega arith, f.each) (omega arith, g.each) e
 
 pub extents_told : Tells (IsSegment is_extent) (segment_bytes (λ e. extent_bytes e.0 e.1))

@@ -11,4 +11,5 @@ mod SchemaLines
 mod SchemaRules
 mod Space
 mod Spelling
+mod StoreRules
 mod Walks

@@ -1,5 +1,5 @@
--- The bytes of a record, of the entries of lists, and of the catalog. Numbers stand with their highest byte first.
-use Rattle.std.specs.Prelude.{◌≡◌, ◌≤◌, ◌^◌, ℕ, ◌+◌, ◌&&◌, nat_lt, nat_le, Bool, true, IsTrue, List, [], ◌∷◌, ◌++◌, flat_map, length, Some, None, if◌then◌else◌}
+-- The bytes of a record, of the entries of lists, and of the catalog, and which of them a file can hold. Numbers stand with their highest byte first.
+use Rattle.std.specs.Prelude.{◌≡◌, ◌^◌, ℕ, ◌+◌, ◌&&◌, nat_lt, nat_le, Bool, true, IsTrue, List, [], ◌∷◌, ◌++◌, flat_map, length, Some, None, if◌then◌else◌}
 use Rattle.std.specs.List.{list_all}
 use Rattle.std.specs.Int.{Width, w16, w32, w128, to_be_bytes, bytes_high_first, cast_unsigned}
 use Rattle.oc_model.specs.declared.value.Base.{Base}
@@ -16,6 +16,7 @@ use Rattle.oc_model.specs.Maps.{Text}
 use Rattle.oc_model.specs.Values.{fits, fits_base}
 use Rattle.oc_model.specs.Kinds.{kind_tag}
 use Rattle.oc_model.specs.Schemas.{Schema}
+use Rattle.oc_model.specs.SchemaRules.{keeps_rules}
 use Rattle.oc_model.specs.Stores.{width_of, base_of}
 
 -- how many there are, in a word of this width, and then the bytes of each
@@ -123,14 +124,14 @@ is_id n = nat_le 1 n && is_word n
 -- A record that a file can hold: its class and its ids are from 1 on and have 32 bits, its entries are few, and its values are small and of their entries' kinds.
 pub record IsSpellable (r : Rec) : Type 0 where
   pub class : IsTrue (is_id r.class)
-  pub few : length r.entries ≤ 65535
+  pub few : IsTrue (nat_le (length r.entries) 65535)
   pub ids : IsTrue (list_all (λ e. is_id e.id) r.entries)
   pub fits : IsTrue (list_all entry_fits r.entries)
   pub small : IsTrue (list_all (λ e. is_small e.value) r.entries)
 
 -- Entries that one segment can hold: they are few, and each passes the test.
 pub record IsSegment {X : Type 0} (test : X → Bool) (entries : List X) : Type 0 where
-  pub few : length entries ≤ 65535
+  pub few : IsTrue (nat_le (length entries) 65535)
   pub each : IsTrue (list_all test entries)
 
 -- an entry of the list of all objects: the number and the class have 32 bits
@@ -140,3 +141,14 @@ is_extent e = is_word e.0 && is_word e.1
 -- an entry of a field's list: the value is a small one of the base kind, and the number has 32 bits
 abbrev pub is_indexed : Base → Atom × ℕ → Bool
 is_indexed b e = fits_base b e.0 && is_small_atom e.0 && is_word e.1
+
+-- a list as the catalog names it: its id, the count of its segments and their numbers have 32 bits
+abbrev pub is_list : ℕ × List ℕ → Bool
+is_list l = is_word l.0 && is_word (length l.1) && list_all is_word l.1
+
+-- A catalog that a file can hold: the schema keeps its rules, the next number and the count of the lists have 32 bits, and so have the numbers in the lists.
+pub record IsCatalog (n : ℕ) (s : Schema) (ls : List (ℕ × List ℕ)) : Type 0 where
+  pub next : IsTrue (is_word n)
+  pub schema : IsTrue (keeps_rules s)
+  pub few : IsTrue (is_word (length ls))
+  pub lists : IsTrue (list_all is_list ls)

@@ -14,6 +14,7 @@ pub mod laws_queries;
 pub mod laws_schemas;
 pub mod laws_spelling;
 pub mod laws_states;
+pub mod laws_stores;
 pub mod laws_walks;
 pub mod query;
 pub mod reach;

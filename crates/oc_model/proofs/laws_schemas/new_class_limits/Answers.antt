@@ -1,4 +1,4 @@
-use Rattle.oc_model.proofs.NewClass as lemma
+use Rattle.oc_model.proofs.NewChild as lemma
 use Rattle.oc_model.proofs.laws_schemas.new_class_limits.Goals as goal
 
 pub returns : goal.returns

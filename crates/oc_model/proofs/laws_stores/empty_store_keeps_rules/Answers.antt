@@ -3,7 +3,7 @@ use Rattle.std.proofs.Common.{◌≡◌, refl, true, Some, None}
 use Rattle.oc_model.specs.declared.value.Rec.{Rec}
 use Rattle.oc_model.specs.Schemas.{empty_schema}
 use Rattle.oc_model.specs.SchemaRules.{keeps_rules}
-use Rattle.oc_model.proofs.laws_candidates.empty_store_keeps_rules.Goals as goal
+use Rattle.oc_model.proofs.laws_stores.empty_store_keeps_rules.Goals as goal
 
 empty_keeps : keeps_rules empty_schema ≡ true
 unfolding keeps_rules
