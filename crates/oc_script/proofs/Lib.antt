@@ -1,4 +1,6 @@
 pub mod Bytes
+pub mod Expressions
 pub mod Lists
 pub mod Numbers
+pub mod Readers
 pub mod Shifts

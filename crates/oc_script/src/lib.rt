@@ -5,9 +5,14 @@ mod cursor;
 mod lexer;
 mod line;
 mod parser;
+mod words;
 
 pub use line::{LineFault, parse_line};
-pub use oc_model::command::{Command, Decl, Decls, Given, Givens, Single, ValueText};
+pub use oc_model::command::{
+    Command, CompareOp, CritText, CritTexts, Decl, Decls, ExprText, ExprTexts, FlagSetting, Given,
+    Givens, Literal, NumberSetting, PathText, RunDepth, SideText, Single, Singles, TextOp,
+    ValueText,
+};
 
 #[cfg(test)]
 mod tests;

@@ -5,7 +5,7 @@ ghost use Rattle.oc_machine.specs.Reading.{reading, says_nothing};
 ghost use Rattle.oc_script.specs.Line.{ReadsAs};
 
 use crate::lexer::{is_blank, tokens};
-use crate::parser::command_of;
+use crate::parser::{command_of, is_deep};
 use oc_model::command::Command;
 use std::alloc::{AllocError, Global};
 
@@ -19,6 +19,8 @@ pub enum LineFault {
     Syntax,
     /// The line has more than 65,535 bytes.
     Long,
+    /// More than 64 parentheses are open at a place of the line.
+    Deep,
     /// There is no memory for the command.
     Memory,
 }
@@ -55,8 +57,9 @@ fn says_nothing(line: &[u8]) -> bool
 ///
 /// # Errors
 ///
-/// `Long` for a line of more than 65,535 bytes, whatever it holds, `Syntax` for one that is no
-/// command, and `Memory` where there is no memory for the command.
+/// `Long` for a line of more than 65,535 bytes, whatever it holds. `Deep` for one that falls into
+/// tokens of which more than 64 are `(` that are open at a place. `Syntax` for every other line that
+/// is no command. `Memory` where there is no memory for the command.
 #[tactic(auto, unfolding(oc_machine::specs::Reading::reading))]
 pub fn parse_line(alloc: Global, line: &[u8]) -> Result<Option<Command>, LineFault>
     ensures { ReadsAs (reading line.now) result }
@@ -70,6 +73,9 @@ pub fn parse_line(alloc: Global, line: &[u8]) -> Result<Option<Command>, LineFau
     let Some(tokens) = tokens(alloc, line)? else {
         return Err(LineFault::Syntax);
     };
+    if is_deep(&tokens) {
+        return Err(LineFault::Deep);
+    }
     let Some(command) = command_of(alloc, &tokens)? else {
         return Err(LineFault::Syntax);
     };

@@ -1,7 +1,0 @@
-use Rattle.std.proofs.Common.{◌≡◌, ◌-◌, [], ◌∷◌}
-use Rattle.oc_machine.specs.Reading.{more_of}
-use Rattle.oc_script.specs.Parsed.{after}
-use Rattle.oc_script.proofs.parser.items_after.Given as goal
-
-abbrev pub invariant-loop : goal.invariant-loop
-invariant-loop g l = after l.items.items (more_of (l.most - l.counter) g.I.Item.parser l.cursor) ≡ after (l.fn.first ∷ []) (more_of l.most g.I.Item.parser l.fn.cursor)
