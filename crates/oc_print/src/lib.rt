@@ -1,4 +1,4 @@
-//! The text of an answer: the lines of the objects that it shows, and its own line.
+//! The text of an answer: the lines of the objects or names that it shows, and its own line.
 #![tactic(auto)]
 
 mod lines;
@@ -7,8 +7,8 @@ mod values;
 
 pub use lines::{answer_text, object_line};
 pub use oc_model::answer::{
-    Answer, Mark, ObjectLine, ObjectLines, Shown, ShownAtom, ShownAtoms, ShownField, ShownFields,
-    ShownValue, Word,
+    Answer, Mark, NameLine, NameLines, ObjectLine, ObjectLines, Shown, ShownAtom, ShownAtoms,
+    ShownField, ShownFields, ShownValue, Word,
 };
 
 #[cfg(test)]

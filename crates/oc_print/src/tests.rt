@@ -1,8 +1,8 @@
 //! Lines beside the bytes that they are to have.
 
 use crate::{
-    Answer, Mark, ObjectLine, Shown, ShownAtom, ShownField, ShownValue, Word, answer_text,
-    object_line,
+    Answer, Mark, NameLine, ObjectLine, ObjectLines, Shown, ShownAtom, ShownField, ShownValue,
+    Word, answer_text, object_line,
 };
 use oc_model::value::Txt;
 use sqlite_items::Items;
@@ -149,15 +149,30 @@ fn answers(rt: HostRuntime) -> Result<(), Fail> {
             },
             "stored ~4294967295 0\n",
         ),
+        (Answer::Deleted(0), "deleted 0\n"),
+        (Answer::Activated(1), "activated 1\n"),
+        (Answer::Deactivated(2), "deactivated 2\n"),
+        (Answer::Refreshed(30), "refreshed 30\n"),
+        (Answer::Converted(4_294_967_295), "converted 4294967295\n"),
+        (
+            Answer::Committed(u64::MAX),
+            "committed 18446744073709551615\n",
+        ),
+        (Answer::RolledBack, "rolled back\n"),
         (Answer::Closed, "closed\n"),
         (Answer::Refused(Word::Syntax), "error syntax\n"),
         (Answer::Refused(Word::Long), "error long\n"),
+        (Answer::Refused(Word::Deep), "error deep\n"),
         (Answer::Refused(Word::Class), "error class\n"),
         (Answer::Refused(Word::Field), "error field\n"),
         (Answer::Refused(Word::Kind), "error kind\n"),
+        (Answer::Refused(Word::Name), "error name\n"),
         (Answer::Refused(Word::Exists), "error exists\n"),
         (Answer::Refused(Word::Parent), "error parent\n"),
         (Answer::Refused(Word::Past), "error past\n"),
+        (Answer::Refused(Word::Live), "error live\n"),
+        (Answer::Refused(Word::Stub), "error stub\n"),
+        (Answer::Refused(Word::Cycle), "error cycle\n"),
         (Answer::Refused(Word::Size), "error size\n"),
         (Answer::Refused(Word::Numbers), "error numbers\n"),
         (
@@ -175,18 +190,62 @@ fn answers(rt: HostRuntime) -> Result<(), Fail> {
     Ok(())
 }
 
-#[test]
-fn found_objects(rt: HostRuntime) -> Result<(), Fail> {
-    let mut objects = Vec::new(rt.alloc());
-    let none = answer_text(rt.alloc(), &Answer::Found(Items::new(rt.alloc())))?;
-    assert_eq!(rt; none.as_slice(), b"found 0\n".as_slice());
+/// Two objects of class K.
+fn two_objects(alloc: Global) -> Result<ObjectLines, AllocError> {
+    let mut objects = Vec::new(alloc);
+    objects.push(object(alloc, Vec::new(alloc))?)?;
+    objects.push(with_value(alloc, ShownValue::One(ShownAtom::Int(1)))?)?;
+    Ok(Items::from_vec(objects))
+}
 
-    objects.push(object(rt.alloc(), Vec::new(rt.alloc()))?)?;
-    objects.push(with_value(rt.alloc(), ShownValue::One(ShownAtom::Int(1)))?)?;
-    let two = answer_text(rt.alloc(), &Answer::Found(Items::from_vec(objects)))?;
+#[test]
+fn answers_with_objects(rt: HostRuntime) -> Result<(), Fail> {
+    let alloc = rt.alloc();
+    for (answer, want) in [
+        (Answer::Found(Items::new(alloc)), "found 0\n"),
+        (
+            Answer::Found(two_objects(alloc)?),
+            "~7 K { }\n~7 K { v: 1 }\nfound 2\n",
+        ),
+        (Answer::Shown(Items::new(alloc)), "shown 0\n"),
+        (
+            Answer::Shown(two_objects(alloc)?),
+            "~7 K { }\n~7 K { v: 1 }\nshown 2\n",
+        ),
+        (Answer::Peeked(Items::new(alloc)), "peeked 0\n"),
+        (
+            Answer::Peeked(two_objects(alloc)?),
+            "~7 K { }\n~7 K { v: 1 }\npeeked 2\n",
+        ),
+    ] {
+        let text = answer_text(alloc, &answer)?;
+        assert_eq!(rt; text.as_slice(), want.as_bytes(), "want {want}");
+    }
+    Ok(())
+}
+
+fn name(alloc: Global, name: &[u8], mark: Mark, active: bool) -> Result<NameLine, AllocError> {
+    Ok(NameLine {
+        name: Txt::from_slice(alloc, name)?,
+        mark,
+        active,
+    })
+}
+
+#[test]
+fn bound_names(rt: HostRuntime) -> Result<(), Fail> {
+    let alloc = rt.alloc();
+    let none = answer_text(alloc, &Answer::Names(Items::new(alloc)))?;
+    assert_eq!(rt; none.as_slice(), b"names 0\n".as_slice());
+
+    let mut names = Vec::new(alloc);
+    names.push(name(alloc, b"b", Mark::Number(4_294_967_295), true)?)?;
+    names.push(name(alloc, b"a", Mark::Number(1), false)?)?;
+    names.push(name(alloc, b"c_1", Mark::Handle(12), true)?)?;
+    let three = answer_text(alloc, &Answer::Names(Items::from_vec(names)))?;
     assert_eq!(rt;
-        two.as_slice(),
-        b"~7 K { }\n~7 K { v: 1 }\nfound 2\n".as_slice()
+        three.as_slice(),
+        b"b ~4294967295 active\na ~1 stub\nc_1 !12 unsaved\nnames 3\n".as_slice()
     );
     Ok(())
 }

@@ -1,5 +1,11 @@
+pub mod Asking
+pub mod Entries
 pub mod LineByLine
 pub mod ListLemmas
+pub mod Making
+pub mod NewClasses
 pub mod Parts
+pub mod Slots
+pub mod Storing
 pub mod Taking
 pub mod Whole

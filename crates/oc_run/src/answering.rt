@@ -62,6 +62,7 @@ pub fn respond(
         Ok(Some(command)) => Ok(Some(store.execute(alloc, &command)?)),
         Err(LineFault::Syntax) => Ok(Some(Answer::Refused(Word::Syntax))),
         Err(LineFault::Long) => Ok(Some(Answer::Refused(Word::Long))),
+        Err(LineFault::Deep) => Ok(Some(Answer::Refused(Word::Deep))),
         Err(LineFault::Memory) => Err(AllocError),
     }
 }

@@ -75,6 +75,29 @@ found 1
 closed
 ";
 
+/// Lines that read as commands which the program doesn't have yet.
+const NOT_BUILT: &[u8] = b"class A { n: i32 }
+class B { on: bool }
+class C: A { }
+make A { n: true }
+query A where n = 1
+query A order n asc
+commit
+query A
+";
+
+const NOT_BUILT_SAYS: &[u8] = b"ready
+ok
+error syntax
+error syntax
+error syntax
+error syntax
+error syntax
+error syntax
+found 0
+closed
+";
+
 #[test]
 fn scripts_are_answered(rt: HostRuntime) -> Result<(), Fail> {
     let rows = [
@@ -91,6 +114,12 @@ fn scripts_are_answered(rt: HostRuntime) -> Result<(), Fail> {
             b"ready\nerror class\nclosed\n",
             1,
         ),
+        (
+            b"(((((((((((((((((((((((((((((((((((((((((((((((((((((((((((((((((",
+            b"ready\nerror deep\nclosed\n",
+            1,
+        ),
+        (NOT_BUILT, NOT_BUILT_SAYS, 1),
     ];
     for (script, says, code) in rows {
         let outcome = answered(rt.alloc(), script)?;

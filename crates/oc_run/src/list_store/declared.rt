@@ -2,7 +2,7 @@
 
 ghost use Rattle.std.specs.Prelude.{◌≡◌, ◌+◌, ◌<◌, ◌^◌, length, map, IfOk};
 ghost use Rattle.oc_model.specs.Maps.{are_distinct};
-ghost use Rattle.oc_machine.specs.Machine.{new_fields};
+ghost use Rattle.oc_run.specs.ListStore.{new_fields};
 
 use oc_model::command::Decl;
 use oc_model::schema::{FieldDef, Fields};

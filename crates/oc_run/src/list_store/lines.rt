@@ -1,7 +1,7 @@
 //! The lines that show records.
 
 ghost use Rattle.std.specs.Prelude.{◌≡◌, ◌≤◌, length, map, IfOk};
-ghost use Rattle.oc_machine.specs.Machine.{shown_atom_by, shown_value_by};
+ghost use Rattle.oc_machine.specs.Showing.{shown_atom_by, shown_value_by};
 ghost use Rattle.oc_run.specs.ListStore.{mark_within, shown_in_order, line_of, lines_from};
 
 use oc_model::answer::{

@@ -2,8 +2,8 @@
 
 ghost use Rattle.std.specs.Prelude.{◌≡◌, ◌<◌, true, length, map, drop, IfOk, Ok, Err};
 ghost use Rattle.oc_model.specs.Maps.{are_distinct};
-ghost use Rattle.oc_machine.specs.Machine.{null_of, value_of};
-ghost use Rattle.oc_run.specs.ListStore.{placed_from, is_filled, with_given, blank, filled, entries_given};
+ghost use Rattle.oc_machine.specs.Values.{null_of};
+ghost use Rattle.oc_run.specs.ListStore.{value_of, placed_from, is_filled, with_given, blank, filled, entries_given};
 
 use oc_model::answer::Word;
 use oc_model::command::{Given, Single, ValueText};
@@ -42,7 +42,7 @@ impl Slots {
     }
 
     /// Whether the field in this place has a value.
-    #[tactic(auto, using(crate::proofs::ListLemmas::filled_read))]
+    #[tactic(auto, using(crate::proofs::Slots::filled_read))]
     fn is_filled(&self, place: usize) -> bool
         requires { place < length self.now }
         ensures { result ≡ is_filled self.now place }
@@ -51,7 +51,7 @@ impl Slots {
     }
 
     /// With one value more; or why it can't be had.
-    #[tactic(auto, using(crate::proofs::ListLemmas::placed_within))]
+    #[tactic(auto, using(crate::proofs::Slots::placed_within))]
     fn with(
         mut self,
         alloc: Global,
@@ -99,7 +99,7 @@ impl Slots {
 }
 
 /// The entries of a record with the given values; or why one can't be had.
-#[tactic(auto, using(crate::proofs::ListLemmas::blank_long, crate::proofs::ListLemmas::given_long))]
+#[tactic(auto, using(crate::proofs::Slots::blank_long, crate::proofs::Slots::given_long))]
 pub fn entries_given(
     alloc: Global,
     fields: &[FieldDef],
@@ -119,7 +119,7 @@ pub fn entries_given(
 }
 
 /// The place and the kind of the field of this name. It is looked for from a place on, and then from the first.
-#[tactic(auto, using(crate::proofs::ListLemmas::placed_first))]
+#[tactic(auto, using(crate::proofs::Slots::placed_first))]
 fn placed_near(fields: &[FieldDef], near: usize, name: &[u8]) -> Option<(usize, Kind)>
     requires { are_distinct (map (λ f. f.name) fields.now) ≡ true }
     ensures { result ≡ placed_from 0 fields.now name.now }
@@ -139,15 +139,14 @@ fn placed(fields: &[FieldDef], from: usize, name: &[u8]) -> Option<(usize, Kind)
     None
 }
 
-/// The value that is written for a field of this kind.
+/// The value that is written for a field of this kind. A value that the program doesn't have yet is taken for null.
 fn value_of(alloc: Global, kind: Kind, text: &ValueText) -> Result<Value, AllocError>
     ensures { IfOk result (λ v. v ≡ value_of kind text.now) }
 {
-    let ValueText::One(single) = text;
-    match single {
-        Single::Null => Ok(null_of(kind)),
-        Single::Int(n) => Ok(Value::One(Atom::Int(*n))),
-        Single::Text(text) => Ok(Value::One(Atom::Text(Some(text.copy(alloc)?)))),
+    match text {
+        ValueText::One(Single::Int(n)) => Ok(Value::One(Atom::Int(*n))),
+        ValueText::One(Single::Text(text)) => Ok(Value::One(Atom::Text(Some(text.copy(alloc)?)))),
+        ValueText::One(_) | ValueText::Many(_) => Ok(null_of(kind)),
     }
 }
 

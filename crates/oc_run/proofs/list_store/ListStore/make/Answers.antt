@@ -1,9 +1,9 @@
 -- What is made by the lists is what the definition makes.
-use Rattle.std.proofs.Common.{sym, ap, ◌∙◌}
+use Rattle.std.proofs.Common.{sym, ap, ◌∙◌, Ok, Err}
 use Rattle.oc_model.specs.Schemas.{class_named}
-use Rattle.oc_machine.specs.Machine.{settled}
+use Rattle.oc_machine.specs.Outcomes.{settled}
 use Rattle.oc_run.specs.ListStore.{entries_given}
-use Rattle.oc_run.proofs.ListLemmas.{make_ok, make_err, given_is_kept, class_is_distinct}
+use Rattle.oc_run.proofs.Making.{make_of, given_is_kept, class_is_distinct}
 use Rattle.oc_run.proofs.list_store.ListStore.make.Goals as goal
 
 pub entries_given-requires : goal.entries_given-requires
@@ -19,8 +19,9 @@ pub returns-in-Ok : goal.returns-in-Ok
 returns-in-Ok c =
     let m = c.args.self.now in
     let gs = c.args.givens.now in
-    let e = make_ok m c.args.class.now gs c.in-Some.number c.in-Some.class.now c.in-Ok.entries c.in-Some.ensures.flat
-    (ap (class_named m.session.schema) (sym c.as_slice.ensures) ∙ c.in-Some.ensures.number) c.in-Some.ensures.class
+    let found = c.in-Some.ensures in
+    let e = make_of m c.args.class.now gs c.in-Some.number c.in-Some.class.now (Ok c.in-Ok.entries) found.flat c.requires found.settings found.free
+    (ap (class_named m.session.schema) (sym c.as_slice.ensures) ∙ found.number) found.class
     (ap (λ fs. entries_given fs gs) (sym c.as_slice-2.ensures) ∙ sym c.in_ok-entries.ensures ∙ c.in-Ok.is) in
     rw e c.store.ensures
 
@@ -28,7 +29,8 @@ pub returns-in-Err : goal.returns-in-Err
 returns-in-Err c =
     let m = c.args.self.now in
     let gs = c.args.givens.now in
-    let e = make_err m c.args.class.now gs c.in-Some.number c.in-Some.class.now c.in-Err.word c.in-Some.ensures.flat
-    (ap (class_named m.session.schema) (sym c.as_slice.ensures) ∙ c.in-Some.ensures.number) c.in-Some.ensures.class
+    let found = c.in-Some.ensures in
+    let e = make_of m c.args.class.now gs c.in-Some.number c.in-Some.class.now (Err c.in-Err.word) found.flat c.requires found.settings found.free
+    (ap (class_named m.session.schema) (sym c.as_slice.ensures) ∙ found.number) found.class
     (ap (λ fs. entries_given fs gs) (sym c.as_slice-2.ensures) ∙ sym c.in_ok-entries.ensures ∙ c.in-Err.is) in
     sym (ap (settled m) e)

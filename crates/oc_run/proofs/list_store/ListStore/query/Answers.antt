@@ -2,9 +2,9 @@
 use Rattle.std.proofs.Common.{sym, ap, ◌∙◌, length}
 use Rattle.oc_model.specs.declared.answer.Answer.TheVariants as answer
 use Rattle.oc_model.specs.Schemas.{class_named}
-use Rattle.oc_machine.specs.Machine.{settled}
+use Rattle.oc_machine.specs.Outcomes.{settled}
 use Rattle.oc_run.specs.ListStore.{lines_from}
-use Rattle.oc_run.proofs.ListLemmas.{query_by}
+use Rattle.oc_run.proofs.Asking.{query_by}
 use Rattle.oc_run.proofs.list_store.ListStore.query.Goals as goal
 
 pub returns : goal.returns

@@ -2,7 +2,7 @@
 use Rattle.std.proofs.Common.{◌≡◌, ◌+◌, ◌<◌, sym, ap, ap₂, ◌∙◌, arith, length, nat_le, true, sum_by}
 use Rattle.oc_model.specs.declared.answer.Answer.TheVariants as answer
 use Rattle.oc_model.specs.Stores.{entry_len, record_len}
-use Rattle.oc_machine.specs.Machine.{settled}
+use Rattle.oc_machine.specs.Outcomes.{settled}
 use Rattle.oc_run.specs.ListStore.{state_of}
 use Rattle.oc_run.proofs.ListLemmas.{store_is}
 use Rattle.oc_run.proofs.list_store.ListStore.store.Goals as goal

@@ -1,5 +1,5 @@
 use Rattle.std.proofs.Common.{◌≡◌, ◌+◌, ◌++◌, drop}
-use Rattle.oc_machine.specs.Machine.{new_fields}
+use Rattle.oc_run.specs.ListStore.{new_fields}
 use Rattle.oc_run.proofs.list_store.declared.new_fields.Given as goal
 
 abbrev pub invariant-loop-decl : goal.invariant-loop-decl

@@ -1,5 +1,5 @@
 use Rattle.std.proofs.Common.{◌≡◌, ◌++◌, drop, map}
-use Rattle.oc_machine.specs.Machine.{shown_atom_by}
+use Rattle.oc_machine.specs.Showing.{shown_atom_by}
 use Rattle.oc_run.specs.ListStore.{mark_within}
 use Rattle.oc_run.proofs.list_store.lines.shown_atoms.Given as goal
 

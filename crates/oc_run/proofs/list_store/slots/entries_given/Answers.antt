@@ -1,6 +1,6 @@
 -- One given value more.
 use Rattle.std.proofs.Common.{sym, ◌∙◌}
-use Rattle.oc_run.proofs.ListLemmas.{given_long, given_more}
+use Rattle.oc_run.proofs.Slots.{given_long, given_more}
 use Rattle.oc_run.proofs.list_store.slots.entries_given.Goals as goal
 
 pub loop-given-preserved : goal.loop-given-preserved

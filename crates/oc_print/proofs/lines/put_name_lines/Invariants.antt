@@ -1,0 +1,7 @@
+use Rattle.std.proofs.Common.{◌≡◌, ◌++◌, drop}
+use Rattle.std.specs.List.{flat_map}
+use Rattle.oc_machine.specs.Printing.{name_line}
+use Rattle.oc_print.proofs.lines.put_name_lines.Given as goal
+
+abbrev pub invariant-loop-name : goal.invariant-loop-name
+invariant-loop-name l = l.out.items ++ flat_map (name_line) (drop l.name-index l.names) ≡ l.fn.out.items ++ flat_map (name_line) l.names
