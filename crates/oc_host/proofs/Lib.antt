@@ -1,2 +1,4 @@
 mod Giving
+pub mod ImageLaws
+pub mod Moments
 pub mod Saying

@@ -46,6 +46,19 @@ pub record Disk : Type 0 where
 abbrev pub now : Disk → Stop
 now d = record { synced = d.synced; spans = d.spans; top = d.top; said = d.said; piece = [] }
 
+-- what settles them in a write of n bytes
+abbrev pub writing : ℕ → ℕ → Disk → Stop
+writing at n d = record { synced = d.synced; spans = record { at = at; len = n } ∷ d.spans; top = max d.top (at + n); said = d.said; piece = [] }
+
+-- what settles them while this piece is said
+abbrev pub saying : List ℕ → Disk → Stop
+saying piece d = record { synced = d.synced; spans = d.spans; top = d.top; said = d.said; piece = piece }
+
+-- A stop in the call with the number t may have left this image, after this was said. The oldest call is number 0.
+abbrev pub In : ℕ → List Stop → List ℕ → List ℕ → Type 0
+In t [] image said = ⊥
+In t (stop ∷ earlier) image said = ((t ≡ length earlier) × IsImage stop image said) ⊎ In t earlier image said
+
 -- A stop in one of these calls, from the one with the number t on, may have left this image, after this was said. The oldest call is number 0.
 abbrev pub Since : ℕ → List Stop → List ℕ → List ℕ → Type 0
 Since t [] image said = ⊥
@@ -84,16 +97,8 @@ looked d = record d { past = now d ∷ d.past }
 -- after a write of n bytes, if the file then reads as `found`
 abbrev pub wrote_as : ℕ → ℕ → List ℕ → Disk → Disk
 wrote_as at n found d =
-    let spans = record { at = at; len = n } ∷ d.spans in
-    let top = max d.top (at + n) in
-    record {
-      bytes = found;
-      synced = d.synced;
-      spans = spans;
-      top = top;
-      said = d.said;
-      past = record { synced = d.synced; spans = spans; top = top; said = d.said; piece = [] } ∷ d.past;
-    }
+    let during = writing at n d in
+    record { bytes = found; synced = d.synced; spans = during.spans; top = during.top; said = d.said; past = during ∷ d.past }
 
 -- after a write of these bytes
 abbrev pub wrote : ℕ → List ℕ → Disk → Disk
@@ -105,10 +110,7 @@ synced_now d = record { bytes = d.bytes; synced = d.bytes; spans = []; top = len
 
 -- after a piece of which n bytes were said
 abbrev pub said_so : List ℕ → ℕ → Disk → Disk
-said_so piece n d = record d {
-  said = d.said ++ take n piece;
-  past = record { synced = d.synced; spans = d.spans; top = d.top; said = d.said; piece = piece } ∷ d.past;
-}
+said_so piece n d = record d { said = d.said ++ take n piece; past = saying piece d ∷ d.past }
 
 -- ---- what each call of a host may make of a disk, by its answer. A call that fails may also leave the disk wholly as it was.
 
@@ -140,6 +142,15 @@ AfterSay piece (Err e) old new = ((n : ℕ) × (new ≡ said_so piece n old)) �
 pub record LeavesOnly (old new : Disk) (P : List ℕ → List ℕ → Type 0) : Type 0 where
   pub later : length old.past ≤ length new.past
   pub each : (t : ℕ) (image said : List ℕ) → t ≤ length old.past → Left new t image said → Left old t image said ⊎ P image said
+
+-- The file and what was said are as they were, and no stop since leaves more than one at `old`.
+pub record Looks (old new : Disk) : Type 0 where
+  pub bytes : new.bytes ≡ old.bytes
+  pub synced : new.synced ≡ old.synced
+  pub spans : new.spans ≡ old.spans
+  pub top : new.top ≡ old.top
+  pub said : new.said ≡ old.said
+  pub moments : LeavesOnly old new (IsImage (now old))
 
 -- This text was said, and the file is as it was.
 pub record Says (old new : Disk) (text : List ℕ) : Type 0 where

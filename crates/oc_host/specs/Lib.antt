@@ -1,6 +1,8 @@
 pub mod Counts
 pub mod Disk
 pub mod FileHost
+pub mod ImageSteps
+pub mod Images
 pub mod MemHost
 pub mod MemSource
 pub mod Replay

@@ -1,14 +1,24 @@
 -- What a `MemHost` stands for.
-use Rattle.std.specs.Prelude.{◌≡◌, ◌+◌, ℕ, List, length, Contains, Result, IsErr}
+use Rattle.std.specs.Prelude.{◌≡◌, ◌+◌, ◌-◌, ℕ, List, length, take, Contains, Result, IsErr}
 use Rattle.oc_host.specs.declared.memory.MemHost.{MemHost}
 use Rattle.oc_host.specs.declared.host.Failed.{Failed}
+use Rattle.oc_host.specs.declared.images.Fill.{Fill}
 use Rattle.oc_host.specs.Counts.{HasCause, Ticks}
 use Rattle.oc_host.specs.Disk.{Disk}
+use Rattle.oc_host.specs.Images.{image_at}
 use Rattle.oc_host.specs.Replay.{fresh, replay}
 
 -- its bytes at the start, after each call that it noted
 abbrev pub disk_of : MemHost → Disk
 disk_of host = replay (fresh host.start.items) host.calls.items
+
+-- its disk when the call with this number, from 1, began
+abbrev pub disk_before : MemHost → ℕ → Disk
+disk_before host call = replay (fresh host.start.items) (take (call - 1) host.calls.items)
+
+-- the image that it shows of a stop in the call with this number, from 1
+abbrev pub image_of : Fill → MemHost → ℕ → List ℕ
+image_of fill host call = image_at fill (fresh host.start.items) host.calls.items (call - 1)
 
 -- the numbers, from 1, of the calls that are to fail
 abbrev pub planned_failures : MemHost → List ℕ

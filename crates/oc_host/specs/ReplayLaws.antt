@@ -13,7 +13,7 @@ replay_push d (c ∷ calls) call = replay_push (after_call c d) calls call
 
 -- ---- the record of stops has one for each call
 
-length-after_call : (call : Call) (d : Disk) → length (after_call call d).past ≡ length d.past + 1
+pub length-after_call : (call : Call) (d : Disk) → length (after_call call d).past ≡ length d.past + 1
 length-after_call Looked d = omega arith
 length-after_call (Wrote at bytes true) d = omega arith
 length-after_call (Wrote at bytes false) d = omega arith
@@ -48,7 +48,7 @@ length-over at bytes b =
     let whole = length-append (take at b ++ bytes) (drop (at + length bytes) b) in
     (omega (arith, whole, length-append (take at b) bytes, length-take at b, length-drop (at + length bytes) b), omega (arith, whole, length-append (take at b) bytes, length-take at b, length-drop (at + length bytes) b))
 
-IsDisk-after_call : (call : Call) (d : Disk) → IsDisk d → IsDisk (after_call call d)
+pub IsDisk-after_call : (call : Call) (d : Disk) → IsDisk d → IsDisk (after_call call d)
 IsDisk-after_call Looked d is = record { no_shorter = is.no_shorter; no_longer = is.no_longer; kept = λ k fixed. is.kept k fixed }
 IsDisk-after_call (Wrote at bytes true) d is = record {
   no_shorter = omega (arith, is.no_shorter, (length-over at bytes.items d.bytes).0);
@@ -63,9 +63,12 @@ IsDisk-after_call (Wrote at bytes false) d is = record {
 IsDisk-after_call Synced d is = record { no_shorter = omega arith; no_longer = omega arith; kept = λ k fixed. refl }
 IsDisk-after_call (Said bytes n) d is = record { no_shorter = is.no_shorter; no_longer = is.no_longer; kept = λ k fixed. is.kept k fixed }
 
-IsDisk-replay : (calls : List Call) (d : Disk) → IsDisk d → IsDisk (replay d calls)
+pub IsDisk-replay : (calls : List Call) (d : Disk) → IsDisk d → IsDisk (replay d calls)
 IsDisk-replay [] d is = is
 IsDisk-replay (call ∷ calls) d is = IsDisk-replay calls (after_call call d) (IsDisk-after_call call d is)
 
+pub IsDisk-fresh : (bytes : List ℕ) → IsDisk (fresh bytes)
+IsDisk-fresh bytes = record { no_shorter = omega arith; no_longer = omega arith; kept = λ k fixed. refl }
+
 pub sound_calls : (bytes : List ℕ) (calls : List Call) → IsDisk (replay (fresh bytes) calls)
-sound_calls bytes calls = IsDisk-replay calls (fresh bytes) (record { no_shorter = omega arith; no_longer = omega arith; kept = λ k fixed. refl })
+sound_calls bytes calls = IsDisk-replay calls (fresh bytes) (IsDisk-fresh bytes)

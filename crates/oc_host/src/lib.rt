@@ -1,8 +1,10 @@
 // The outside as the store sees it: one file, what is said, and the text that commands come from.
 #![tactic(auto)]
 
+mod fault;
 mod file;
 mod host;
+mod images;
 mod memory;
 mod memory_source;
 mod plan;
@@ -11,8 +13,10 @@ mod standard_input;
 #[cfg(test)]
 mod tests;
 
+pub use fault::IoFault;
 pub use file::FileHost;
 pub use host::{Failed, Host};
+pub use images::Fill;
 pub use memory::MemHost;
 pub use memory_source::MemSource;
 pub use source::Source;

@@ -5,6 +5,7 @@ ghost use Rattle.oc_host.specs.Disk.{AfterLook, AfterWrite, AfterSync, AfterSay,
 ghost use Rattle.oc_host.specs.Replay.{fresh, replay, after_call};
 ghost use Rattle.oc_host.specs.ReplayLaws.{counted_calls, sound_calls};
 
+use crate::images::{Fill, image_in, said_by};
 use crate::plan::is_planned;
 use crate::{Failed, Host};
 use std::alloc::{AllocError, Global};
@@ -12,7 +13,7 @@ use std::alloc::{AllocError, Global};
 // What was asked. A call that only looks, or a sync that fails, changes nothing. A write is noted with whether it was
 // done, and a piece with how many of its bytes were said.
 #[derive(Drop)]
-enum Call {
+pub(crate) enum Call {
     Looked,
     Wrote(u64, Vec<u8>, bool),
     Synced,
@@ -37,7 +38,8 @@ pub struct MemHost {
 }
 
 impl MemHost {
-    ghost use Rattle.oc_host.specs.MemHost.{disk_of, planned_failures, IsNextToFail, NotesCall, NotesNothing, KeepsCounts, Answers};
+    ghost use Rattle.oc_host.specs.Disk.{In};
+    ghost use Rattle.oc_host.specs.MemHost.{disk_of, disk_before, image_of, planned_failures, IsNextToFail, NotesCall, NotesNothing, KeepsCounts, Answers};
 
     /// A synced file with these bytes. `fail` names the calls that are to fail, by their numbers from 1.
     pub fn new(alloc: Global, bytes: Vec<u8>, fail: Vec<u64>) -> Result<MemHost, AllocError>
@@ -79,6 +81,30 @@ impl MemHost {
         ensures { result ≡ ⟦<MemHost as Host>⟧.clock self.now }
     {
         self.calls.len() as u64
+    }
+
+    /// The file that a stop in this call may leave, with what no sync has covered kept, lost or filled.
+    ///
+    /// Calls are numbered from 1. What the call itself writes counts as written, also where it failed.
+    pub fn image(&self, alloc: Global, call: u64, fill: Fill) -> Result<Vec<u8>, AllocError>
+        requires some { 1 ≤ call }
+        requires there { call ≤ ⟦<MemHost as Host>⟧.clock self.now }
+        ensures bytes { IfOk result (λ v. v.items ≡ image_of fill self.now call) }
+        ensures left { IfOk result (λ v.
+            In (call - 1)
+            (⟦<MemHost as Host>⟧.disk self.now).past v.items (disk_before self.now call).said) }
+    {
+        image_in(alloc, &self.start, &self.calls, call as usize - 1, fill)
+    }
+
+    /// What had been said when this call began. Calls are numbered from 1.
+    pub fn said_at(&self, alloc: Global, call: u64) -> Result<Vec<u8>, AllocError>
+        requires some { 1 ≤ call }
+        requires there { call ≤ ⟦<MemHost as Host>⟧.clock self.now }
+        ensures { IfOk result (λ v. v.items ≡ (disk_before self.now call).said) }
+    {
+        let (earlier, _) = self.calls.split_at(call as usize - 1);
+        said_by(alloc, &self.start, earlier)
     }
 
     fn is_to_fail(&self) -> bool

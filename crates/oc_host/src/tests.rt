@@ -1,4 +1,4 @@
-use crate::{Failed, FileHost, Host, MemHost, MemSource, Source, StdSource};
+use crate::{Failed, FileHost, Fill, Host, MemHost, MemSource, Source, StdSource};
 use std::alloc::{AllocError, Global};
 use std::fs;
 use std::test::Fail;
@@ -49,6 +49,60 @@ fn fails_where_it_is_to(rt: HostRuntime) -> Result<(), Fail> {
         assert_eq!(rt; host.bytes(), [first, 2, 3, 4].as_slice());
         assert_eq!(rt; host.said(), said);
         assert_eq!(rt; host.calls(), 5);
+    }
+    Ok(())
+}
+
+#[test]
+fn shows_what_a_stop_leaves(rt: HostRuntime) -> Result<(), Fail> {
+    let alloc = rt.alloc();
+    let mut host = memory(alloc, &[])?;
+    assert_eq!(rt; host.len(), Ok(4));
+    assert_eq!(rt; host.write_at(3, &[9, 8]), Ok(()));
+    assert_eq!(rt; host.say(b"ab"), Ok(()));
+    assert_eq!(rt; host.sync(), Ok(()));
+    assert_eq!(rt; host.write_at(0, &[7]), Ok(()));
+    for (call, fill, image, said) in [
+        (1, Fill::Kept, [1, 2, 3, 4].as_slice(), ""),
+        (2, Fill::Kept, [1, 2, 3, 9, 8].as_slice(), ""),
+        (2, Fill::Lost, [1, 2, 3, 4].as_slice(), ""),
+        (2, Fill::Byte(5), [1, 2, 3, 5, 5].as_slice(), ""),
+        (3, Fill::Lost, [1, 2, 3, 4].as_slice(), ""),
+        (4, Fill::Byte(0), [1, 2, 3, 0, 0].as_slice(), "ab"),
+        (5, Fill::Kept, [7, 2, 3, 9, 8].as_slice(), "ab"),
+        (5, Fill::Lost, [1, 2, 3, 9, 8].as_slice(), "ab"),
+        (5, Fill::Byte(0), [0, 2, 3, 9, 8].as_slice(), "ab"),
+    ] {
+        assert!(rt; 1 <= call && call <= host.calls());
+        assert_eq!(rt;
+            host.image(alloc, call, fill)?.as_slice(),
+            image,
+            "{call} {fill:?}"
+        );
+        assert_eq!(rt; host.said_at(alloc, call)?.as_slice(), said.as_bytes());
+    }
+    Ok(())
+}
+
+#[test]
+fn a_failed_write_opens_its_range(rt: HostRuntime) -> Result<(), Fail> {
+    let alloc = rt.alloc();
+    let mut host = memory(alloc, &[2])?;
+    assert_eq!(rt; host.len(), Ok(4));
+    assert_eq!(rt; host.write_at(3, &[9, 8]), Err(Failed));
+    assert_eq!(rt; host.sync(), Ok(()));
+    for (call, fill, image) in [
+        (2, Fill::Kept, [1, 2, 3, 9, 8].as_slice()),
+        (3, Fill::Kept, [1, 2, 3, 4].as_slice()),
+        (3, Fill::Lost, [1, 2, 3, 4].as_slice()),
+        (3, Fill::Byte(5), [1, 2, 3, 5, 5].as_slice()),
+    ] {
+        assert!(rt; 1 <= call && call <= host.calls());
+        assert_eq!(rt;
+            host.image(alloc, call, fill)?.as_slice(),
+            image,
+            "{call} {fill:?}"
+        );
     }
     Ok(())
 }

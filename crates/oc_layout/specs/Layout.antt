@@ -1,5 +1,5 @@
 -- The bytes of a cell and of a log, and how they are read again.
-use Rattle.std.specs.Prelude.{◌≡◌, ◌<◌, ◌^◌, ◌+◌, ◌*◌, ℕ, zero, suc, ◌==◌, ◌&&◌, nat_lt, Bool, true, false, if◌then◌else◌, IsTrue, List, [], ◌∷◌, ◌++◌, length, drop, Option, Some, None, All}
+use Rattle.std.specs.Prelude.{◌≡◌, ◌<◌, ◌^◌, ◌+◌, ◌-◌, ◌*◌, ◌/◌, ℕ, zero, suc, ◌==◌, ◌&&◌, nat_lt, Bool, true, false, if◌then◌else◌, IsTrue, List, [], ◌∷◌, ◌++◌, length, drop, Option, Some, None, All}
 use Rattle.std.specs.Int.{w32, w64, to_be_bytes, from_be_bytes}
 use Rattle.oc_layout.specs.declared.cells.Cell.{Cell}
 use Rattle.oc_layout.specs.declared.cells.CellWrite.{CellWrite}
@@ -21,6 +21,10 @@ room_of h = if h.form == 2 then h.block_limit else h.limit
 
 abbrev pub first_page_of : Header → Cell
 first_page_of h = if h.form == 2 then h.block_root else h.root
+
+-- the blocks that n bytes take, of `unit` bytes each
+abbrev pub blocks : ℕ → ℕ → ℕ
+blocks unit n = (n + unit - 1) / unit
 
 -- A cell: its place and its length.
 

@@ -1,0 +1,4 @@
+pub mod Log
+pub mod Runs
+pub mod States
+pub mod Stops
