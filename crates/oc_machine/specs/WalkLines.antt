@@ -55,10 +55,10 @@ abbrev pub with_number : State → ℕ → State
 with_number m h = elim (at m.live h) [
   | None ↦ m
   | Some o ↦
-    record m {
-      session = record m.session { next = m.session.next + 1 };
-      live = with_at m.live h (record { class = o.class; number = Some m.session.next; active = o.active; entries = o.entries });
-    }
+      record m {
+        session = record m.session { next = m.session.next + 1 };
+        live = with_at m.live h (record { class = o.class; number = Some m.session.next; active = o.active; entries = o.entries });
+      }
 ]
 
 -- the entries of the session's record of a number

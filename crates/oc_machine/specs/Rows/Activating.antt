@@ -20,7 +20,7 @@ seven_stored : run (
     codes "let n6.next = n7" ∷
     codes "store n1" ∷
     []
-  ) ≡ lines (
+    ) ≡ lines (
     codes "ready" ∷
     codes "ok" ∷
     codes "ok" ∷
@@ -39,7 +39,7 @@ seven_stored : run (
     codes "stored ~1 7" ∷
     codes "closed" ∷
     []
-  )
+    )
 unfolding rows
 seven_stored = refl
 
@@ -61,12 +61,12 @@ default_depth : then (
     codes "let n6.next = n7" ∷
     codes "store n1" ∷
     []
-  ) (
+    ) (
     codes "bind n ~1" ∷
     codes "activate n" ∷
     codes "show n" ∷
     []
-  ) ≡ lines (
+    ) ≡ lines (
     codes "ready" ∷
     codes "ok" ∷
     codes "activated 5" ∷
@@ -79,7 +79,7 @@ default_depth : then (
     codes "shown 6" ∷
     codes "closed" ∷
     []
-  )
+    )
 unfolding rows
 default_depth = refl
 
@@ -101,12 +101,12 @@ depth_nothing : then (
     codes "let n6.next = n7" ∷
     codes "store n1" ∷
     []
-  ) (
+    ) (
     codes "bind n ~1" ∷
     codes "activate n 0" ∷
     codes "show n" ∷
     []
-  ) ≡ lines (
+    ) ≡ lines (
     codes "ready" ∷
     codes "ok" ∷
     codes "activated 0" ∷
@@ -114,7 +114,7 @@ depth_nothing : then (
     codes "shown 1" ∷
     codes "closed" ∷
     []
-  )
+    )
 unfolding rows
 depth_nothing = refl
 
@@ -136,13 +136,13 @@ one_less_each_time : then (
     codes "let n6.next = n7" ∷
     codes "store n1" ∷
     []
-  ) (
+    ) (
     codes "bind n ~1" ∷
     codes "activate n 2" ∷
     codes "activate n 2" ∷
     codes "activate n 3" ∷
     []
-  ) ≡ lines (
+    ) ≡ lines (
     codes "ready" ∷
     codes "ok" ∷
     codes "activated 2" ∷
@@ -150,7 +150,7 @@ one_less_each_time : then (
     codes "activated 1" ∷
     codes "closed" ∷
     []
-  )
+    )
 unfolding rows
 one_less_each_time = refl
 
@@ -163,12 +163,12 @@ a_cycle : then (
     codes "let b.next = a" ∷
     codes "store a" ∷
     []
-  ) (
+    ) (
     codes "bind a ~1" ∷
     codes "activate a 3" ∷
     codes "show a" ∷
     []
-  ) ≡ lines (
+    ) ≡ lines (
     codes "ready" ∷
     codes "ok" ∷
     codes "activated 2" ∷
@@ -177,7 +177,7 @@ a_cycle : then (
     codes "shown 2" ∷
     codes "closed" ∷
     []
-  )
+    )
 unfolding rows
 a_cycle = refl
 
@@ -194,13 +194,13 @@ a_cascade : then (
     codes "let c.next = d" ∷
     codes "store a" ∷
     []
-  ) (
+    ) (
     codes "config P.cascade_activate on" ∷
     codes "bind a ~1" ∷
     codes "activate a 1" ∷
     codes "show a" ∷
     []
-  ) ≡ lines (
+    ) ≡ lines (
     codes "ready" ∷
     codes "ok" ∷
     codes "ok" ∷
@@ -212,7 +212,7 @@ a_cascade : then (
     codes "shown 4" ∷
     codes "closed" ∷
     []
-  )
+    )
 unfolding rows
 a_cascade = refl
 
@@ -233,17 +233,17 @@ greatest_budget : then (
     codes "let e.a = f" ∷
     codes "store a" ∷
     []
-  ) (
+    ) (
     codes "bind x ~1" ∷
     codes "activate x 4" ∷
     []
-  ) ≡ lines (
+    ) ≡ lines (
     codes "ready" ∷
     codes "ok" ∷
     codes "activated 6" ∷
     codes "closed" ∷
     []
-  )
+    )
 unfolding rows
 greatest_budget = refl
 
@@ -257,7 +257,7 @@ minimum_and_maximum : then (
     codes "new a A { next: b }" ∷
     codes "store a" ∷
     []
-  ) (
+    ) (
     codes "config A.minimum 1" ∷
     codes "bind a ~4" ∷
     codes "activate a 0" ∷
@@ -267,7 +267,7 @@ minimum_and_maximum : then (
     codes "activate a 1" ∷
     codes "show a" ∷
     []
-  ) ≡ lines (
+    ) ≡ lines (
     codes "ready" ∷
     codes "ok" ∷
     codes "ok" ∷
@@ -285,7 +285,7 @@ minimum_and_maximum : then (
     codes "shown 4" ∷
     codes "closed" ∷
     []
-  )
+    )
 unfolding rows
 minimum_and_maximum = refl
 
@@ -296,13 +296,13 @@ unsaved_on_the_way : then (
     codes "new a N { next: b, v: 1 }" ∷
     codes "store a" ∷
     []
-  ) (
+    ) (
     codes "config N.minimum 1" ∷
     codes "new u N { next: ~2 }" ∷
     codes "activate u 0" ∷
     codes "show u" ∷
     []
-  ) ≡ lines (
+    ) ≡ lines (
     codes "ready" ∷
     codes "ok" ∷
     codes "ok" ∷
@@ -313,7 +313,7 @@ unsaved_on_the_way : then (
     codes "shown 3" ∷
     codes "closed" ∷
     []
-  )
+    )
 unfolding rows
 unsaved_on_the_way = refl
 
@@ -326,14 +326,14 @@ handles_by_number : then (
     codes "new w N { a: z }" ∷
     codes "store w" ∷
     []
-  ) (
+    ) (
     codes "bind w ~4" ∷
     codes "activate w 2" ∷
     codes "config N.cascade_delete on" ∷
     codes "delete w" ∷
     codes "show w" ∷
     []
-  ) ≡ lines (
+    ) ≡ lines (
     codes "ready" ∷
     codes "ok" ∷
     codes "activated 2" ∷
@@ -346,7 +346,7 @@ handles_by_number : then (
     codes "shown 4" ∷
     codes "closed" ∷
     []
-  )
+    )
 unfolding rows
 handles_by_number = refl
 
@@ -357,7 +357,7 @@ active_ones_stay : then (
     codes "new a N { next: b, v: 1 }" ∷
     codes "store a" ∷
     []
-  ) (
+    ) (
     codes "bind a ~2" ∷
     codes "activate a 1" ∷
     codes "let a.v = 7" ∷
@@ -368,7 +368,7 @@ active_ones_stay : then (
     codes "refresh a 1" ∷
     codes "show a" ∷
     []
-  ) ≡ lines (
+    ) ≡ lines (
     codes "ready" ∷
     codes "ok" ∷
     codes "activated 1" ∷
@@ -385,7 +385,7 @@ active_ones_stay : then (
     codes "shown 2" ∷
     codes "closed" ∷
     []
-  )
+    )
 unfolding rows
 active_ones_stay = refl
 
@@ -396,13 +396,13 @@ past_entries : then (
     codes "new a N { next: b, v: 1 }" ∷
     codes "store a" ∷
     []
-  ) (
+    ) (
     codes "class N { other: ref, v: i32 }" ∷
     codes "bind a ~2" ∷
     codes "activate a" ∷
     codes "show a" ∷
     []
-  ) ≡ lines (
+    ) ≡ lines (
     codes "ready" ∷
     codes "ok" ∷
     codes "ok" ∷
@@ -411,7 +411,7 @@ past_entries : then (
     codes "shown 1" ∷
     codes "closed" ∷
     []
-  )
+    )
 unfolding rows
 past_entries = refl
 
@@ -422,7 +422,7 @@ dangling : then (
     codes "new a N { next: b, v: 1 }" ∷
     codes "store a" ∷
     []
-  ) (
+    ) (
     codes "bind b ~1" ∷
     codes "delete b" ∷
     codes "bind a ~2" ∷
@@ -430,7 +430,7 @@ dangling : then (
     codes "show a" ∷
     codes "bind c a.next" ∷
     []
-  ) ≡ lines (
+    ) ≡ lines (
     codes "ready" ∷
     codes "ok" ∷
     codes "deleted 1" ∷
@@ -441,6 +441,6 @@ dangling : then (
     codes "error live" ∷
     codes "closed" ∷
     []
-  )
+    )
 unfolding rows
 dangling = refl

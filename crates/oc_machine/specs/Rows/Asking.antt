@@ -11,7 +11,7 @@ order : run (
     codes "make T { a: 2, b: 3 }" ∷
     codes "query T order a asc, b desc" ∷
     []
-  ) ≡ lines (
+    ) ≡ lines (
     codes "ready" ∷
     codes "ok" ∷
     codes "stored ~1 1" ∷
@@ -25,7 +25,7 @@ order : run (
     codes "found 4" ∷
     codes "closed" ∷
     []
-  )
+    )
 unfolding rows
 order = refl
 
@@ -41,7 +41,7 @@ texts : run (
     codes "query P order name asc" ∷
     codes "query P order name desc" ∷
     []
-  ) ≡ lines (
+    ) ≡ lines (
     codes "ready" ∷
     codes "ok" ∷
     codes "stored ~1 1" ∷
@@ -61,7 +61,7 @@ texts : run (
     codes "found 2" ∷
     codes "closed" ∷
     []
-  )
+    )
 unfolding rows
 texts = refl
 
@@ -77,7 +77,7 @@ arrays : run (
     codes "query R where ts = null" ∷
     codes "query R order xs desc" ∷
     []
-  ) ≡ lines (
+    ) ≡ lines (
     codes "ready" ∷
     codes "ok" ∷
     codes "stored ~1 1" ∷
@@ -100,7 +100,7 @@ arrays : run (
     codes "found 3" ∷
     codes "closed" ∷
     []
-  )
+    )
 unfolding rows
 arrays = refl
 
@@ -118,7 +118,7 @@ paths : run (
     codes "query Car where pilot.points = null" ∷
     codes "query Car where pilot is p and pilot is ~1" ∷
     []
-  ) ≡ lines (
+    ) ≡ lines (
     codes "ready" ∷
     codes "ok" ∷
     codes "ok" ∷
@@ -136,7 +136,7 @@ paths : run (
     codes "found 1" ∷
     codes "closed" ∷
     []
-  )
+    )
 unfolding rows
 paths = refl
 
@@ -157,7 +157,7 @@ refusals : run (
     codes "query A order q asc" ∷
     codes "query A order b asc, r.q desc" ∷
     []
-  ) ≡ lines (
+    ) ≡ lines (
     codes "ready" ∷
     codes "ok" ∷
     codes "ok" ∷
@@ -175,7 +175,7 @@ refusals : run (
     codes "found 0" ∷
     codes "closed" ∷
     []
-  )
+    )
 unfolding rows
 refusals = refl
 
@@ -193,7 +193,7 @@ dangling : run (
     codes "query A where not r = null" ∷
     codes "query A order r asc" ∷
     []
-  ) ≡ lines (
+    ) ≡ lines (
     codes "ready" ∷
     codes "ok" ∷
     codes "ok" ∷
@@ -212,7 +212,7 @@ dangling : run (
     codes "found 2" ∷
     codes "closed" ∷
     []
-  )
+    )
 unfolding rows
 dangling = refl
 
@@ -229,7 +229,7 @@ constraints_on_kinds : run (
     codes "query A where r < null" ∷
     codes "query A where b < 1" ∷
     []
-  ) ≡ lines (
+    ) ≡ lines (
     codes "ready" ∷
     codes "ok" ∷
     codes "stored ~1 1" ∷
@@ -246,6 +246,6 @@ constraints_on_kinds : run (
     codes "found 0" ∷
     codes "closed" ∷
     []
-  )
+    )
 unfolding rows
 constraints_on_kinds = refl

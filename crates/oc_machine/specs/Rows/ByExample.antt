@@ -15,7 +15,7 @@ defaults_ask_nothing : run (
     codes "let l.r = l" ∷
     codes "example l" ∷
     []
-  ) ≡ lines (
+    ) ≡ lines (
     codes "ready" ∷
     codes "ok" ∷
     codes "ok" ∷
@@ -31,7 +31,7 @@ defaults_ask_nothing : run (
     codes "error cycle" ∷
     codes "closed" ∷
     []
-  )
+    )
 unfolding rows
 defaults_ask_nothing = refl
 
@@ -52,7 +52,7 @@ arrays : run (
     codes "make R { rs: [~1, ~3] }" ∷
     codes "example e" ∷
     []
-  ) ≡ lines (
+    ) ≡ lines (
     codes "ready" ∷
     codes "ok" ∷
     codes "stored ~1 1" ∷
@@ -76,7 +76,7 @@ arrays : run (
     codes "found 1" ∷
     codes "closed" ∷
     []
-  )
+    )
 unfolding rows
 arrays = refl
 
@@ -99,7 +99,7 @@ inner_examples : run (
     codes "query C where p example z" ∷
     codes "example z" ∷
     []
-  ) ≡ lines (
+    ) ≡ lines (
     codes "ready" ∷
     codes "ok" ∷
     codes "ok" ∷
@@ -124,7 +124,7 @@ inner_examples : run (
     codes "error name" ∷
     codes "closed" ∷
     []
-  )
+    )
 unfolding rows
 inner_examples = refl
 
@@ -140,7 +140,7 @@ stub_before_cycle : run (
     codes "activate b" ∷
     codes "example a" ∷
     []
-  ) ≡ lines (
+    ) ≡ lines (
     codes "ready" ∷
     codes "ok" ∷
     codes "ok" ∷
@@ -153,6 +153,6 @@ stub_before_cycle : run (
     codes "error cycle" ∷
     codes "closed" ∷
     []
-  )
+    )
 unfolding rows
 stub_before_cycle = refl

@@ -12,7 +12,7 @@ numbers_again : run (
     codes "names" ∷
     codes "store a" ∷
     []
-  ) ≡ lines (
+    ) ≡ lines (
     codes "ready" ∷
     codes "ok" ∷
     codes "committed 1" ∷
@@ -24,7 +24,7 @@ numbers_again : run (
     codes "stored ~1 1" ∷
     codes "closed" ∷
     []
-  )
+    )
 unfolding rows
 numbers_again = refl
 
@@ -37,7 +37,7 @@ schema_rolled_back : run (
     codes "rollback" ∷
     codes "query A" ∷
     []
-  ) ≡ lines (
+    ) ≡ lines (
     codes "ready" ∷
     codes "ok" ∷
     codes "ok" ∷
@@ -47,7 +47,7 @@ schema_rolled_back : run (
     codes "error class" ∷
     codes "closed" ∷
     []
-  )
+    )
 unfolding rows
 schema_rolled_back = refl
 
@@ -69,7 +69,7 @@ kinds_rolled_back : run (
     codes "names" ∷
     codes "query K" ∷
     []
-  ) ≡ lines (
+    ) ≡ lines (
     codes "ready" ∷
     codes "ok" ∷
     codes "ok" ∷
@@ -92,7 +92,7 @@ kinds_rolled_back : run (
     codes "found 1" ∷
     codes "closed" ∷
     []
-  )
+    )
 unfolding rows
 kinds_rolled_back = refl
 
@@ -114,7 +114,7 @@ whole_schemas : run (
     codes "rollback" ∷
     codes "names" ∷
     []
-  ) ≡ lines (
+    ) ≡ lines (
     codes "ready" ∷
     codes "ok" ∷
     codes "ok" ∷
@@ -136,7 +136,7 @@ whole_schemas : run (
     codes "names 1" ∷
     codes "closed" ∷
     []
-  )
+    )
 unfolding rows
 whole_schemas = refl
 
@@ -158,7 +158,7 @@ settings_rolled_back : run (
     codes "let b.v = 1" ∷
     codes "store b" ∷
     []
-  ) ≡ lines (
+    ) ≡ lines (
     codes "ready" ∷
     codes "ok" ∷
     codes "committed 1" ∷
@@ -177,7 +177,7 @@ settings_rolled_back : run (
     codes "stored ~2 1" ∷
     codes "closed" ∷
     []
-  )
+    )
 unfolding rows
 settings_rolled_back = refl
 
@@ -194,7 +194,7 @@ values_stay : run (
     codes "show a" ∷
     codes "names" ∷
     []
-  ) ≡ lines (
+    ) ≡ lines (
     codes "ready" ∷
     codes "ok" ∷
     codes "ok" ∷
@@ -211,7 +211,7 @@ values_stay : run (
     codes "names 1" ∷
     codes "closed" ∷
     []
-  )
+    )
 unfolding rows
 values_stay = refl
 
@@ -235,7 +235,7 @@ both_sides : run (
     codes "refresh b 1" ∷
     codes "show b" ∷
     []
-  ) ≡ lines (
+    ) ≡ lines (
     codes "ready" ∷
     codes "ok" ∷
     codes "ok" ∷
@@ -263,7 +263,7 @@ both_sides : run (
     codes "shown 1" ∷
     codes "closed" ∷
     []
-  )
+    )
 unfolding rows
 both_sides = refl
 
@@ -287,7 +287,7 @@ peeks : run (
     codes "peek z 0 session" ∷
     codes "peek ~0 1 session" ∷
     []
-  ) ≡ lines (
+    ) ≡ lines (
     codes "ready" ∷
     codes "ok" ∷
     codes "ok" ∷
@@ -311,6 +311,6 @@ peeks : run (
     codes "error live" ∷
     codes "closed" ∷
     []
-  )
+    )
 unfolding rows
 peeks = refl

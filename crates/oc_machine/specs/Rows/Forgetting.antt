@@ -15,7 +15,7 @@ deactivated_two : run (
     codes "show b" ∷
     codes "show c" ∷
     []
-  ) ≡ lines (
+    ) ≡ lines (
     codes "ready" ∷
     codes "ok" ∷
     codes "ok" ∷
@@ -32,7 +32,7 @@ deactivated_two : run (
     codes "shown 1" ∷
     codes "closed" ∷
     []
-  )
+    )
 unfolding rows
 deactivated_two = refl
 
@@ -46,7 +46,7 @@ deactivated_through_records : run (
     codes "deactivate b 1" ∷
     codes "deactivate a 3" ∷
     []
-  ) ≡ lines (
+    ) ≡ lines (
     codes "ready" ∷
     codes "ok" ∷
     codes "ok" ∷
@@ -57,7 +57,7 @@ deactivated_through_records : run (
     codes "deactivated 2" ∷
     codes "closed" ∷
     []
-  )
+    )
 unfolding rows
 deactivated_through_records = refl
 
@@ -72,7 +72,7 @@ deactivated_unsaved : run (
     codes "deactivate u 2" ∷
     codes "show u" ∷
     []
-  ) ≡ lines (
+    ) ≡ lines (
     codes "ready" ∷
     codes "ok" ∷
     codes "ok" ∷
@@ -86,7 +86,7 @@ deactivated_unsaved : run (
     codes "shown 2" ∷
     codes "closed" ∷
     []
-  )
+    )
 unfolding rows
 deactivated_unsaved = refl
 
@@ -105,7 +105,7 @@ refreshed_two : run (
     codes "refresh a 2" ∷
     codes "show a" ∷
     []
-  ) ≡ lines (
+    ) ≡ lines (
     codes "ready" ∷
     codes "ok" ∷
     codes "ok" ∷
@@ -124,7 +124,7 @@ refreshed_two : run (
     codes "shown 3" ∷
     codes "closed" ∷
     []
-  )
+    )
 unfolding rows
 refreshed_two = refl
 
@@ -140,7 +140,7 @@ refreshed_by_records : run (
     codes "refresh a 2" ∷
     codes "show b" ∷
     []
-  ) ≡ lines (
+    ) ≡ lines (
     codes "ready" ∷
     codes "ok" ∷
     codes "ok" ∷
@@ -154,7 +154,7 @@ refreshed_by_records : run (
     codes "shown 1" ∷
     codes "closed" ∷
     []
-  )
+    )
 unfolding rows
 refreshed_by_records = refl
 
@@ -165,7 +165,7 @@ refreshed_unsaved : run (
     codes "refresh a 65536" ∷
     codes "refresh b 1" ∷
     []
-  ) ≡ lines (
+    ) ≡ lines (
     codes "ready" ∷
     codes "ok" ∷
     codes "ok" ∷
@@ -174,7 +174,7 @@ refreshed_unsaved : run (
     codes "error name" ∷
     codes "closed" ∷
     []
-  )
+    )
 unfolding rows
 refreshed_unsaved = refl
 
@@ -189,7 +189,7 @@ deleted_alone : run (
     codes "query N" ∷
     codes "show a" ∷
     []
-  ) ≡ lines (
+    ) ≡ lines (
     codes "ready" ∷
     codes "ok" ∷
     codes "ok" ∷
@@ -206,7 +206,7 @@ deleted_alone : run (
     codes "shown 3" ∷
     codes "closed" ∷
     []
-  )
+    )
 unfolding rows
 deleted_alone = refl
 
@@ -226,7 +226,7 @@ deleted_all : run (
     codes "names" ∷
     codes "delete a" ∷
     []
-  ) ≡ lines (
+    ) ≡ lines (
     codes "ready" ∷
     codes "ok" ∷
     codes "ok" ∷
@@ -247,7 +247,7 @@ deleted_all : run (
     codes "error live" ∷
     codes "closed" ∷
     []
-  )
+    )
 unfolding rows
 deleted_all = refl
 
@@ -268,7 +268,7 @@ detached_by_delete : run (
     codes "store z" ∷
     codes "query A" ∷
     []
-  ) ≡ lines (
+    ) ≡ lines (
     codes "ready" ∷
     codes "ok" ∷
     codes "ok" ∷
@@ -291,6 +291,6 @@ detached_by_delete : run (
     codes "found 2" ∷
     codes "closed" ∷
     []
-  )
+    )
 unfolding rows
 detached_by_delete = refl

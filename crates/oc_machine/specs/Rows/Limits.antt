@@ -47,7 +47,7 @@ ancestors : run (
     codes "class C32 : C31 { }" ∷
     codes "class C33 : C32 { }" ∷
     []
-  ) ≡ lines (
+    ) ≡ lines (
     codes "ready" ∷
     codes "ok" ∷
     codes "ok" ∷
@@ -85,7 +85,7 @@ ancestors : run (
     codes "error size" ∷
     codes "closed" ∷
     []
-  )
+    )
 unfolding rows
 ancestors = refl
 

@@ -27,7 +27,7 @@ a_session : run (
     codes "show p" ∷
     codes "bind z ~7" ∷
     []
-  ) ≡ lines (
+    ) ≡ lines (
     codes "ready" ∷
     codes "ok" ∷
     codes "ok" ∷
@@ -58,7 +58,7 @@ a_session : run (
     codes "error live" ∷
     codes "closed" ∷
     []
-  )
+    )
 unfolding rows
 a_session = refl
 
@@ -75,7 +75,7 @@ order_of_names : run (
     codes "new a A { }" ∷
     codes "names" ∷
     []
-  ) ≡ lines (
+    ) ≡ lines (
     codes "ready" ∷
     codes "ok" ∷
     codes "ok" ∷
@@ -93,7 +93,7 @@ order_of_names : run (
     codes "names 2" ∷
     codes "closed" ∷
     []
-  )
+    )
 unfolding rows
 order_of_names = refl
 
@@ -104,7 +104,7 @@ name_before : run (
     codes "new a A { r: a }" ∷
     codes "show a" ∷
     []
-  ) ≡ lines (
+    ) ≡ lines (
     codes "ready" ∷
     codes "ok" ∷
     codes "ok" ∷
@@ -114,7 +114,7 @@ name_before : run (
     codes "shown 2" ∷
     codes "closed" ∷
     []
-  )
+    )
 unfolding rows
 name_before = refl
 
@@ -138,7 +138,7 @@ refusals_of_values : run (
     codes "make A { xs: [], ts: null, rs: [] }" ∷
     codes "query A" ∷
     []
-  ) ≡ lines (
+    ) ≡ lines (
     codes "ready" ∷
     codes "ok" ∷
     codes "error live" ∷
@@ -161,7 +161,7 @@ refusals_of_values : run (
     codes "found 2" ∷
     codes "closed" ∷
     []
-  )
+    )
 unfolding rows
 refusals_of_values = refl
 
@@ -171,7 +171,7 @@ handles_of_refused_lines : then (
     codes "make A { }" ∷
     codes "make A { }" ∷
     []
-  ) (
+    ) (
     codes "new a A { r: ~2, n: 128 }" ∷
     codes "let z.r = ~1" ∷
     codes "new a A { r: ~2, s: ~1 }" ∷
@@ -179,7 +179,7 @@ handles_of_refused_lines : then (
     codes "delete a" ∷
     codes "show a" ∷
     []
-  ) ≡ lines (
+    ) ≡ lines (
     codes "ready" ∷
     codes "error kind" ∷
     codes "error name" ∷
@@ -193,7 +193,7 @@ handles_of_refused_lines : then (
     codes "shown 3" ∷
     codes "closed" ∷
     []
-  )
+    )
 unfolding rows
 handles_of_refused_lines = refl
 
@@ -212,7 +212,7 @@ lets : run (
     codes "let a.m = 1" ∷
     codes "bind c a.m" ∷
     []
-  ) ≡ lines (
+    ) ≡ lines (
     codes "ready" ∷
     codes "ok" ∷
     codes "ok" ∷
@@ -230,7 +230,7 @@ lets : run (
     codes "error stub" ∷
     codes "closed" ∷
     []
-  )
+    )
 unfolding rows
 lets = refl
 
@@ -249,7 +249,7 @@ binds : run (
     codes "names" ∷
     codes "purge c" ∷
     []
-  ) ≡ lines (
+    ) ≡ lines (
     codes "ready" ∷
     codes "ok" ∷
     codes "ok" ∷
@@ -270,7 +270,7 @@ binds : run (
     codes "error live" ∷
     codes "closed" ∷
     []
-  )
+    )
 unfolding rows
 binds = refl
 
@@ -285,7 +285,7 @@ settings : run (
     codes "config Z.cascade_delete on" ∷
     codes "config A.cascade_delete off" ∷
     []
-  ) ≡ lines (
+    ) ≡ lines (
     codes "ready" ∷
     codes "ok" ∷
     codes "error class" ∷
@@ -297,6 +297,6 @@ settings : run (
     codes "ok" ∷
     codes "closed" ∷
     []
-  )
+    )
 unfolding rows
 settings = refl

@@ -20,7 +20,7 @@ refusals : run (
     codes "config A.minimum 65536" ∷
     codes "query A where a = 1" ∷
     []
-  ) ≡ lines (
+    ) ≡ lines (
     codes "ready" ∷
     codes "error syntax" ∷
     codes "ok" ∷
@@ -40,7 +40,7 @@ refusals : run (
     codes "error field" ∷
     codes "closed" ∷
     []
-  )
+    )
 unfolding rows
 refusals = refl
 
@@ -58,7 +58,7 @@ conversions : run (
     codes "convert S.t from text" ∷
     codes "query S" ∷
     []
-  ) ≡ lines (
+    ) ≡ lines (
     codes "ready" ∷
     codes "ok" ∷
     codes "stored ~1 1" ∷
@@ -76,7 +76,7 @@ conversions : run (
     codes "found 1" ∷
     codes "closed" ∷
     []
-  )
+    )
 unfolding rows
 conversions = refl
 
@@ -94,7 +94,7 @@ wide_kinds : run (
     codes "convert W.c from [u64]" ∷
     codes "query W" ∷
     []
-  ) ≡ lines (
+    ) ≡ lines (
     codes "ready" ∷
     codes "ok" ∷
     codes "stored ~1 1" ∷
@@ -112,7 +112,7 @@ wide_kinds : run (
     codes "found 1" ∷
     codes "closed" ∷
     []
-  )
+    )
 unfolding rows
 wide_kinds = refl
 
@@ -130,7 +130,7 @@ parents : run (
     codes "class C : B { c: i8 }" ∷
     codes "class A { c: i8 }" ∷
     []
-  ) ≡ lines (
+    ) ≡ lines (
     codes "ready" ∷
     codes "error class" ∷
     codes "ok" ∷
@@ -145,7 +145,7 @@ parents : run (
     codes "error exists" ∷
     codes "closed" ∷
     []
-  )
+    )
 unfolding rows
 parents = refl
 
@@ -167,7 +167,7 @@ live_objects_of_a_changed_class : run (
     codes "activate s" ∷
     codes "show s" ∷
     []
-  ) ≡ lines (
+    ) ≡ lines (
     codes "ready" ∷
     codes "ok" ∷
     codes "ok" ∷
@@ -193,7 +193,7 @@ live_objects_of_a_changed_class : run (
     codes "shown 1" ∷
     codes "closed" ∷
     []
-  )
+    )
 unfolding rows
 live_objects_of_a_changed_class = refl
 
@@ -222,7 +222,7 @@ live_objects_of_other_lines : run (
     codes "rename B.z to q" ∷
     codes "rename B.b to xs" ∷
     []
-  ) ≡ lines (
+    ) ≡ lines (
     codes "ready" ∷
     codes "ok" ∷
     codes "ok" ∷
@@ -252,7 +252,7 @@ live_objects_of_other_lines : run (
     codes "error exists" ∷
     codes "closed" ∷
     []
-  )
+    )
 unfolding rows
 live_objects_of_other_lines = refl
 
@@ -275,7 +275,7 @@ refusals_of_refactoring : run (
     codes "convert B.b from i16" ∷
     codes "convert B.b from [i8]" ∷
     []
-  ) ≡ lines (
+    ) ≡ lines (
     codes "ready" ∷
     codes "ok" ∷
     codes "ok" ∷
@@ -296,6 +296,6 @@ refusals_of_refactoring : run (
     codes "error past" ∷
     codes "closed" ∷
     []
-  )
+    )
 unfolding rows
 refusals_of_refactoring = refl

@@ -16,7 +16,7 @@ update_depth : run (
     codes "store a" ∷
     codes "query M" ∷
     []
-  ) ≡ lines (
+    ) ≡ lines (
     codes "ready" ∷
     codes "ok" ∷
     codes "ok" ∷
@@ -34,7 +34,7 @@ update_depth : run (
     codes "found 3" ∷
     codes "closed" ∷
     []
-  )
+    )
 unfolding rows
 update_depth = refl
 
@@ -52,7 +52,7 @@ update_depth_two : run (
     codes "store a 2" ∷
     codes "query M" ∷
     []
-  ) ≡ lines (
+    ) ≡ lines (
     codes "ready" ∷
     codes "ok" ∷
     codes "ok" ∷
@@ -70,7 +70,7 @@ update_depth_two : run (
     codes "found 3" ∷
     codes "closed" ∷
     []
-  )
+    )
 unfolding rows
 update_depth_two = refl
 
@@ -88,7 +88,7 @@ update_cascade : run (
     codes "purge b" ∷
     codes "names" ∷
     []
-  ) ≡ lines (
+    ) ≡ lines (
     codes "ready" ∷
     codes "ok" ∷
     codes "ok" ∷
@@ -107,7 +107,7 @@ update_cascade : run (
     codes "names 2" ∷
     codes "closed" ∷
     []
-  )
+    )
 unfolding rows
 update_cascade = refl
 
@@ -127,7 +127,7 @@ set_depths : run (
     codes "make M { r: ~2 }" ∷
     codes "query M" ∷
     []
-  ) ≡ lines (
+    ) ≡ lines (
     codes "ready" ∷
     codes "ok" ∷
     codes "ok" ∷
@@ -147,7 +147,7 @@ set_depths : run (
     codes "found 3" ∷
     codes "closed" ∷
     []
-  )
+    )
 unfolding rows
 set_depths = refl
 
@@ -158,7 +158,7 @@ inactive_root : then (
     codes "new a M { r: b }" ∷
     codes "store a" ∷
     []
-  ) (
+    ) (
     codes "bind a ~2" ∷
     codes "store a" ∷
     codes "bind b ~1" ∷
@@ -167,7 +167,7 @@ inactive_root : then (
     codes "store a 2" ∷
     codes "query M" ∷
     []
-  ) ≡ lines (
+    ) ≡ lines (
     codes "ready" ∷
     codes "ok" ∷
     codes "stored ~2 0" ∷
@@ -180,7 +180,7 @@ inactive_root : then (
     codes "found 2" ∷
     codes "closed" ∷
     []
-  )
+    )
 unfolding rows
 inactive_root = refl
 
@@ -191,7 +191,7 @@ long_record : run (
     codes "store b" ∷
     codes "store a 65536" ∷
     []
-  ) ≡ lines (
+    ) ≡ lines (
     codes "ready" ∷
     codes "ok" ∷
     codes "ok" ∷
@@ -199,6 +199,6 @@ long_record : run (
     codes "error size" ∷
     codes "closed" ∷
     []
-  )
+    )
 unfolding rows
 long_record = refl
