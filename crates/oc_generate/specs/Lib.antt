@@ -1,0 +1,2 @@
+pub use Rattle.oc_machine.specs.Generated.{generated}
+pub mod Lines
