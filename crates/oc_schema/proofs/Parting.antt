@@ -1,5 +1,5 @@
 -- The rules of a schema, parted into those of each class, those of its line, and those of all.
-use Rattle.std.proofs.Common.{◌≡◌, refl, sym, ap, ◌∙◌, ℕ, zero, suc, ◌+◌, ◌<◌, Bool, true, false, not, ◌≤◌, ◌&&◌, ◌||◌, nat_lt, nat_le, List, [], ◌∷◌, length, map, flat_map, drop, arith, is_some, IsTrue, ◌↔◌, true≢false}
+use Rattle.std.proofs.Common.{◌≡◌, refl, sym, ap, ◌∙◌, ℕ, zero, suc, ◌+◌, ◌<◌, Bool, true, false, not, ◌≤◌, ◌&&◌, ◌||◌, nat_lt, nat_le, List, [], ◌∷◌, length, map, flat_map, slice_get, drop, arith, is_some, IsTrue, ◌↔◌, true≢false}
 use denote.Ref.{Bor}
 use Rattle.std.proofs.lemmas.Bool.Decides.{nat_tests}
 use Rattle.std.proofs.lemmas.List.{drop_more}
@@ -214,6 +214,16 @@ earlier_parents s h =
     let ids = and_parts _ (has_distinct_ids s) drawn.0 in
     let field_names = and_parts _ (has_distinct_names s) ids.0 in
     (and_parts _ (has_earlier_parents s) field_names.0).1
+
+-- and at most as great as there are classes
+pub class_within : (s : Schema) (c : ℕ) → is_some (class_at s c) ≡ true → (1 ≤ c) × (c ≤ length s.classes)
+class_within s zero h = absurd (true≢false (sym h))
+class_within s (suc c) h = (omega arith, within s.classes c h)
+  where
+    within : (cs : List ClassDef) (i : ℕ) → is_some (slice_get cs i) ≡ true → suc i ≤ length cs
+    within [] i h = absurd (true≢false (sym h))
+    within (c ∷ cs) zero h = omega arith
+    within (c ∷ cs) (suc i) h = let r = within cs i h in omega arith
 
 pub few_classes : (s : Schema) → keeps_rules s ≡ true → length s.classes ≤ 65535
 unfolding keeps_rules is_within_limits

@@ -1,6 +1,6 @@
 //! Classes that schemas may share, before they are known to keep the rules.
 
-ghost use Rattle.std.specs.Prelude.{◌≡◌, ◌≤◌, ◌<◌, ◌++◌, map, length, get_or, true, is_some, IfOk, OnOk, IfSome};
+ghost use Rattle.std.specs.Prelude.{◌≡◌, ◌≤◌, ◌<◌, ◌-◌, ◌++◌, ◌∷◌, [], map, length, get_or, slice_set, true, is_some, IfOk, OnOk, IfSome};
 ghost use Rattle.std.specs.Option.{option_copied};
 ghost use Rattle.oc_model.specs.Schemas.{empty_schema, class_at, parent_of, fields_of, field_named, is_sub};
 ghost use Rattle.oc_model.specs.SchemaRules.{ancestors, has_distinct_classes, has_earlier_parents};
@@ -56,6 +56,53 @@ impl Draft {
             classes: shared,
             next_field,
         })
+    }
+
+    /// With one class more behind the others, which are shared.
+    pub fn with_class(
+        &self,
+        alloc: Global,
+        class: ClassDef,
+        next_field: u32,
+    ) -> Result<Draft, AllocError>
+        ensures { IfOk result (λ d. d ≡ schema_of (self.now.classes ++ class ∷ []) next_field) }
+    {
+        let mut classes = self.shared(alloc)?;
+        classes.push(Rc::new(alloc, class)?)?;
+        Ok(Draft {
+            classes,
+            next_field,
+        })
+    }
+
+    /// With this class in place of the one of this number; the others are shared.
+    pub fn with_class_at(
+        &self,
+        alloc: Global,
+        number: u32,
+        class: ClassDef,
+        next_field: u32,
+    ) -> Result<Draft, AllocError>
+        requires some { 1 ≤ number }
+        requires there { number ≤ length self.now.classes }
+        ensures { IfOk result (λ d. d ≡ schema_of (slice_set self.now.classes (number - 1) class) next_field) }
+    {
+        let mut classes = self.shared(alloc)?;
+        classes[number as usize - 1] = Rc::new(alloc, class)?;
+        Ok(Draft {
+            classes,
+            next_field,
+        })
+    }
+
+    fn shared(&self, alloc: Global) -> Result<Vec<Rc<ClassDef>>, AllocError>
+        ensures { IfOk result (λ v. map (λ c. c.value) v.items ≡ self.now.classes) }
+    {
+        let mut classes = Vec::new(alloc);
+        for class in &self.classes {
+            classes.push(class.clone()?)?;
+        }
+        Ok(classes)
     }
 
     /// No classes.
@@ -128,6 +175,20 @@ impl Draft {
             }
         }
         Ok(Some(numbers))
+    }
+
+    /// The number of each class by its name; of two with one name the first.
+    pub fn table(&self, alloc: Global) -> Result<BTreeMap<Vec<u8>, u32>, AllocError>
+        requires { length self.now.classes ≤ 65535 }
+        ensures { IfOk result (λ m. IsTable m self.now.classes) }
+    {
+        let mut numbers: BTreeMap<Vec<u8>, u32> = BTreeMap::new(alloc);
+        for place in (0..self.len()).rev() {
+            let class = self.class_in(place);
+            let name = Vec::from_slice(alloc, class.name.as_slice())?;
+            numbers.insert(name, place as u32 + 1)?;
+        }
+        Ok(numbers)
     }
 
     /// Whether each class has at most 32 ancestors and 255 fields, of which no two have one name.

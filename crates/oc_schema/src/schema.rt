@@ -1,6 +1,6 @@
 //! Schemas.
 
-ghost use Rattle.std.specs.Prelude.{◌≡◌, ◌≤◌, ◌↔◌, length, map, true, Some, None, is_some, IsTrue, IfOk, if◌then◌else◌};
+ghost use Rattle.std.specs.Prelude.{◌≡◌, ◌≤◌, ◌↔◌, ◌-◌, ◌++◌, ◌∷◌, [], slice_set, length, map, true, Some, None, is_some, IsTrue, IfOk, if◌then◌else◌};
 ghost use Rattle.std.specs.List.{list_all};
 ghost use Rattle.std.specs.Option.{option_copied, option_map};
 ghost use Rattle.oc_model.specs.Schemas.{empty_schema, class_named, class_at, fields_of, field_named, is_sub};
@@ -77,6 +77,49 @@ impl Schema {
             draft: Draft::empty(alloc),
             numbers: BTreeMap::new(alloc),
         }
+    }
+
+    /// With one class more behind the others, and this next field id, which keep the rules. The other classes are shared.
+    pub fn with_class(
+        &self,
+        alloc: Global,
+        class: ClassDef,
+        next_field: u32,
+    ) -> Result<Schema, AllocError>
+        requires { keeps_rules (schema_of (self.now.classes ++ class ∷ []) next_field) ≡ true }
+        ensures { IfOk result (λ s. s ≡ schema_of (self.now.classes ++ class ∷ []) next_field) }
+    {
+        let draft = self.draft.with_class(alloc, class, next_field)?;
+        let schema = Schema::kept(alloc, draft)?;
+        Ok(schema)
+    }
+
+    /// With this class in place of the one of this number, and this next field id, which keep the rules. The other classes are shared.
+    #[tactic(auto, using(crate::proofs::Parting::class_within))]
+    pub fn with_class_at(
+        &self,
+        alloc: Global,
+        number: u32,
+        class: ClassDef,
+        next_field: u32,
+    ) -> Result<Schema, AllocError>
+        requires there { is_some (class_at self.now number) ≡ true }
+        requires rules { keeps_rules (schema_of (slice_set self.now.classes (number - 1) class) next_field) ≡ true }
+        ensures { IfOk result (λ s. s ≡ schema_of (slice_set self.now.classes (number - 1) class) next_field) }
+    {
+        let draft = self.draft.with_class_at(alloc, number, class, next_field)?;
+        let schema = Schema::kept(alloc, draft)?;
+        Ok(schema)
+    }
+
+    /// The schema of parts that keep the rules.
+    #[tactic(auto, using(crate::proofs::Parting::few_classes))]
+    fn kept(alloc: Global, draft: Draft) -> Result<Schema, AllocError>
+        requires { keeps_rules draft ≡ true }
+        ensures { IfOk result (λ s. s ≡ draft) }
+    {
+        let numbers = draft.table(alloc)?;
+        Ok(Schema { draft, numbers })
     }
 
     /// Every schema keeps the rules.
