@@ -1,5 +1,5 @@
 -- The rules of a schema, parted into those of each class, those of its line, and those of all.
-use Rattle.std.proofs.Common.{◌≡◌, refl, sym, ap, ◌∙◌, ℕ, zero, suc, ◌+◌, ◌<◌, Bool, true, false, not, ◌≤◌, ◌&&◌, ◌||◌, nat_lt, nat_le, List, [], ◌∷◌, length, map, flat_map, slice_get, drop, arith, is_some, IsTrue, ◌↔◌, true≢false}
+use Rattle.std.proofs.Common.{◌≡◌, refl, sym, ap, ◌∙◌, ℕ, zero, suc, ◌+◌, ◌<◌, Bool, true, false, not, ◌≤◌, ◌&&◌, ◌||◌, nat_lt, nat_le, List, [], ◌∷◌, length, map, flat_map, slice_get, drop, arith, is_some, IsTrue, ◌↔◌, true≢false, Some, cond, Option, None, IfSome}
 use denote.Ref.{Bor}
 use Rattle.std.proofs.lemmas.Bool.Decides.{nat_tests}
 use Rattle.std.proofs.lemmas.List.{drop_more}
@@ -7,8 +7,8 @@ use Rattle.std.proofs.lemmas.List.Folds.{list_all-append}
 use Rattle.std.specs.List.{list_all, enumerate_from}
 use Rattle.oc_model.specs.declared.schema.FieldDef.{FieldDef}
 use Rattle.oc_model.specs.declared.schema.ClassDef.{ClassDef}
-use Rattle.oc_model.specs.Schemas.{Schema, empty_schema, class_at, fields_of}
-use Rattle.oc_model.specs.Maps.{are_distinct}
+use Rattle.oc_model.specs.Schemas.{Schema, empty_schema, class_at, class_named, number_from, fields_of}
+use Rattle.oc_model.specs.Maps.{Text, same, are_distinct}
 use Rattle.oc_model.specs.SchemaRules.{numbered, is_name, are_in_order, are_apart, ancestors, has_few_classes, has_few_ancestors, has_few_fields, has_few_own_fields, has_few_ids, has_names, has_distinct_classes, has_earlier_parents, has_distinct_names, has_distinct_ids, has_drawn_ids, has_ordered_fields, has_no_past_index, has_no_array_index, is_within_limits, keeps_rules}
 use Rattle.oc_model.specs.StoreRules.{Suits, is_known, are_ascending}
 use Rattle.oc_model.specs.Spelling.{entry_fits}
@@ -255,3 +255,23 @@ suits_told s r b e = (
 pub empty_keeps : keeps_rules empty_schema ≡ true
 unfolding keeps_rules is_within_limits
 empty_keeps = refl
+
+-- the class of a name is there
+named_there : (s : Schema) (name : Text) (n : ℕ) → class_named s name ≡ Some n → is_some (class_at s n) ≡ true
+named_there s name n h = let r = numbered_there 1 s.classes n h in at_place s n r.0 (r.1, r.2)
+  where
+    numbered_there : (m : ℕ) (cs : List ClassDef) (n : ℕ) → number_from m cs name ≡ Some n → (i : ℕ) × (n ≡ m + i) × (is_some (slice_get cs i) ≡ true)
+    numbered_there m [] n h = absurd (cc)
+    numbered_there m (c ∷ cs) n h =
+        (elim (same c.name name) as (λ b. cond b (Some m) (number_from (m + 1) cs name) ≡ Some n → (i : ℕ) × (n ≡ m + i) × (is_some (slice_get (c ∷ cs) i) ≡ true)) [
+          | true ↦ λ h. let q : m ≡ n = cc in (0, omega (arith, q), refl)
+          | false ↦ λ h. let r = numbered_there (m + 1) cs n h in let e = r.1 in (suc r.0, omega (arith, e), r.2)
+        ]) h
+
+    at_place : (s : Schema) (n : ℕ) (i : ℕ) → (n ≡ 1 + i) × (is_some (slice_get s.classes i) ≡ true) → is_some (class_at s n) ≡ true
+    at_place s zero i h = absurd (omega (arith, h.0))
+    at_place s (suc k) i h = let q : k ≡ i = omega (arith, h.0) in ap (λ j. is_some (slice_get s.classes j)) q ∙ h.1
+
+pub some_there : (s : Schema) (name : Text) (o : Option ℕ) → o ≡ class_named s name → IfSome o (λ n. is_some (class_at s n) ≡ true)
+some_there s name None h = tt
+some_there s name (Some n) h = named_there s name n (sym h)

@@ -1,6 +1,6 @@
 //! Schemas.
 
-ghost use Rattle.std.specs.Prelude.{◌≡◌, ◌≤◌, ◌↔◌, ◌-◌, ◌++◌, ◌∷◌, [], slice_set, length, map, true, Some, None, is_some, IsTrue, IfOk, if◌then◌else◌};
+ghost use Rattle.std.specs.Prelude.{◌≡◌, ◌≤◌, ◌↔◌, ◌-◌, ◌++◌, ◌∷◌, [], slice_set, length, map, true, Some, None, is_some, IsTrue, IfOk, IfSome, if◌then◌else◌};
 ghost use Rattle.std.specs.List.{list_all};
 ghost use Rattle.std.specs.Option.{option_copied, option_map};
 ghost use Rattle.oc_model.specs.Schemas.{empty_schema, class_named, class_at, fields_of, field_named, is_sub};
@@ -146,7 +146,8 @@ impl Schema {
 
     /// The number of the class of this name.
     pub fn class_named(&self, name: &[u8]) -> Option<u32>
-        ensures { result ≡ class_named self.now name.now }
+        ensures value { result ≡ class_named self.now name.now }
+        ensures there { IfSome result (λ n. is_some (class_at self.now n) ≡ true) }
     {
         self.numbers.get(name).copied()
     }
