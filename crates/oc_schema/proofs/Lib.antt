@@ -1,0 +1,4 @@
+mod FromBehind
+pub mod Sharing
+pub mod Ancestry
+pub mod Parting

@@ -1,0 +1,13 @@
+use Rattle.std.proofs.Common.{◌≡◌, drop, true, map, nat_cmp}
+use Rattle.std.specs.List.{list_any}
+use Rattle.std.specs.BTreeSet.{contains_by}
+use Rattle.std.specs.Cmp.Lexicographic.{slice_cmp}
+use Rattle.oc_model.specs.Maps.{Text, same, are_distinct}
+use Rattle.oc_schema.proofs.distinct.have_distinct_names.Given as goal
+
+abbrev pub invariant-loop-place : goal.invariant-loop-place
+invariant-loop-place l =
+    record {
+      distinct : are_distinct (map (λ f. f.now.name) (drop l.place l.fields)) ≡ true;
+      seen : (q : Text) → contains_by (λ k. slice_cmp nat_cmp q k.now) l.later ≡ list_any (same q) (map (λ f. f.now.name) (drop l.place l.fields));
+    }

@@ -1,0 +1,2 @@
+pub mod ClassRules
+pub mod Drafts

@@ -1,0 +1,16 @@
+//! Schemas: classes with their fields, which keep every rule of the catalog.
+#![tactic(auto)]
+
+mod class_rules;
+mod distinct;
+mod draft;
+mod entries;
+mod fields;
+mod schema;
+
+pub use oc_model::command::{Decl as FieldText, Decls as FieldTexts};
+pub use oc_model::schema::{ClassDef, FieldDef, Fields};
+pub use schema::{Classes, Schema};
+
+#[cfg(test)]
+mod tests;
