@@ -1,0 +1,3 @@
+pub mod Ranges
+pub use Rattle.oc_model.specs.Conversions
+pub use Rattle.oc_model.specs.Values

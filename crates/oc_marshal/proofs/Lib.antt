@@ -1,0 +1,4 @@
+pub mod Standing
+pub mod Texts
+pub mod Parts
+pub mod Readings
