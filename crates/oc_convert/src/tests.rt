@@ -65,201 +65,222 @@ fn converts(
     Ok(())
 }
 
+/// A single value, as a table can hold it.
+enum Sample {
+    Bool(bool),
+    Int(i128),
+    Text(&'static str),
+    Null,
+    Ref(u64),
+}
+
+fn atom_of(alloc: Global, sample: &Sample) -> Result<Atom, AllocError> {
+    match sample {
+        Sample::Bool(truth) => Ok(Atom::Bool(*truth)),
+        Sample::Int(number) => Ok(Atom::Int(*number)),
+        Sample::Text(spelled) => text(alloc, spelled),
+        Sample::Null => Ok(Atom::Text(None)),
+        Sample::Ref(number) => Ok(Atom::Ref(*number)),
+    }
+}
+
 // Each row has a value of a kind, and what it is as each of the nine kinds, `-` where it is nothing.
+const ROWS: [(Base, Sample, [&str; 9]); 24] = [
+    (
+        Base::Bool,
+        Sample::Bool(true),
+        ["true", "1", "1", "1", "1", "1", "1", "'true'", "-"],
+    ),
+    (
+        Base::Bool,
+        Sample::Bool(false),
+        ["false", "0", "0", "0", "0", "0", "0", "'false'", "-"],
+    ),
+    (
+        Base::I8,
+        Sample::Int(1),
+        ["true", "1", "1", "1", "1", "1", "1", "'1'", "-"],
+    ),
+    (
+        Base::I8,
+        Sample::Int(-128),
+        [
+            "-", "-128", "-128", "-128", "-128", "-", "-128", "'-128'", "-",
+        ],
+    ),
+    (
+        Base::I16,
+        Sample::Int(0),
+        ["false", "0", "0", "0", "0", "0", "0", "'0'", "-"],
+    ),
+    (
+        Base::I16,
+        Sample::Int(128),
+        ["-", "-", "128", "128", "128", "128", "128", "'128'", "-"],
+    ),
+    (
+        Base::I16,
+        Sample::Int(-129),
+        ["-", "-", "-129", "-129", "-129", "-", "-129", "'-129'", "-"],
+    ),
+    (
+        Base::I32,
+        Sample::Int(1),
+        ["true", "1", "1", "1", "1", "1", "1", "'1'", "-"],
+    ),
+    (
+        Base::I32,
+        Sample::Int(32_768),
+        [
+            "-", "-", "-", "32768", "32768", "32768", "32768", "'32768'", "-",
+        ],
+    ),
+    (
+        Base::I32,
+        Sample::Int(-32_769),
+        [
+            "-", "-", "-", "-32769", "-32769", "-", "-32769", "'-32769'", "-",
+        ],
+    ),
+    (
+        Base::I64,
+        Sample::Int(0),
+        ["false", "0", "0", "0", "0", "0", "0", "'0'", "-"],
+    ),
+    (
+        Base::I64,
+        Sample::Int(2_147_483_648),
+        [
+            "-",
+            "-",
+            "-",
+            "-",
+            "2147483648",
+            "2147483648",
+            "2147483648",
+            "'2147483648'",
+            "-",
+        ],
+    ),
+    (
+        Base::I64,
+        Sample::Int(-2_147_483_649),
+        [
+            "-",
+            "-",
+            "-",
+            "-",
+            "-2147483649",
+            "-",
+            "-2147483649",
+            "'-2147483649'",
+            "-",
+        ],
+    ),
+    (
+        Base::U64,
+        Sample::Int(1),
+        ["true", "1", "1", "1", "1", "1", "1", "'1'", "-"],
+    ),
+    (
+        Base::U64,
+        Sample::Int(18_446_744_073_709_551_615),
+        [
+            "-",
+            "-",
+            "-",
+            "-",
+            "-",
+            "18446744073709551615",
+            "18446744073709551615",
+            "'18446744073709551615'",
+            "-",
+        ],
+    ),
+    (
+        Base::I128,
+        Sample::Int(0),
+        ["false", "0", "0", "0", "0", "0", "0", "'0'", "-"],
+    ),
+    (
+        Base::I128,
+        Sample::Int(18_446_744_073_709_551_616),
+        [
+            "-",
+            "-",
+            "-",
+            "-",
+            "-",
+            "-",
+            "18446744073709551616",
+            "'18446744073709551616'",
+            "-",
+        ],
+    ),
+    (
+        Base::I128,
+        Sample::Int(i128::MIN),
+        [
+            "-",
+            "-",
+            "-",
+            "-",
+            "-",
+            "-",
+            "-170141183460469231731687303715884105728",
+            "'-170141183460469231731687303715884105728'",
+            "-",
+        ],
+    ),
+    (
+        Base::Text,
+        Sample::Text("false"),
+        ["false", "-", "-", "-", "-", "-", "-", "'false'", "-"],
+    ),
+    (
+        Base::Text,
+        Sample::Text("-007"),
+        ["-", "-7", "-7", "-7", "-7", "-", "-7", "'-007'", "-"],
+    ),
+    (
+        Base::Text,
+        Sample::Text("18446744073709551615"),
+        [
+            "-",
+            "-",
+            "-",
+            "-",
+            "-",
+            "18446744073709551615",
+            "18446744073709551615",
+            "'18446744073709551615'",
+            "-",
+        ],
+    ),
+    (
+        Base::Text,
+        Sample::Null,
+        ["-", "-", "-", "-", "-", "-", "-", "null", "-"],
+    ),
+    (
+        Base::Ref,
+        Sample::Ref(5),
+        ["-", "-", "-", "-", "-", "-", "-", "-", "~5"],
+    ),
+    (
+        Base::Ref,
+        Sample::Ref(0),
+        ["-", "-", "-", "-", "-", "-", "-", "-", "~0"],
+    ),
+];
+
 #[test]
 fn each_kind_to_each_kind(rt: HostRuntime) -> Result<(), Fail> {
     let alloc = rt.alloc();
-    for (from, atom, wants) in [
-        (
-            Base::Bool,
-            Atom::Bool(true),
-            ["true", "1", "1", "1", "1", "1", "1", "'true'", "-"],
-        ),
-        (
-            Base::Bool,
-            Atom::Bool(false),
-            ["false", "0", "0", "0", "0", "0", "0", "'false'", "-"],
-        ),
-        (
-            Base::I8,
-            Atom::Int(1),
-            ["true", "1", "1", "1", "1", "1", "1", "'1'", "-"],
-        ),
-        (
-            Base::I8,
-            Atom::Int(-128),
-            [
-                "-", "-128", "-128", "-128", "-128", "-", "-128", "'-128'", "-",
-            ],
-        ),
-        (
-            Base::I16,
-            Atom::Int(0),
-            ["false", "0", "0", "0", "0", "0", "0", "'0'", "-"],
-        ),
-        (
-            Base::I16,
-            Atom::Int(128),
-            ["-", "-", "128", "128", "128", "128", "128", "'128'", "-"],
-        ),
-        (
-            Base::I16,
-            Atom::Int(-129),
-            ["-", "-", "-129", "-129", "-129", "-", "-129", "'-129'", "-"],
-        ),
-        (
-            Base::I32,
-            Atom::Int(1),
-            ["true", "1", "1", "1", "1", "1", "1", "'1'", "-"],
-        ),
-        (
-            Base::I32,
-            Atom::Int(32_768),
-            [
-                "-", "-", "-", "32768", "32768", "32768", "32768", "'32768'", "-",
-            ],
-        ),
-        (
-            Base::I32,
-            Atom::Int(-32_769),
-            [
-                "-", "-", "-", "-32769", "-32769", "-", "-32769", "'-32769'", "-",
-            ],
-        ),
-        (
-            Base::I64,
-            Atom::Int(0),
-            ["false", "0", "0", "0", "0", "0", "0", "'0'", "-"],
-        ),
-        (
-            Base::I64,
-            Atom::Int(2_147_483_648),
-            [
-                "-",
-                "-",
-                "-",
-                "-",
-                "2147483648",
-                "2147483648",
-                "2147483648",
-                "'2147483648'",
-                "-",
-            ],
-        ),
-        (
-            Base::I64,
-            Atom::Int(-2_147_483_649),
-            [
-                "-",
-                "-",
-                "-",
-                "-",
-                "-2147483649",
-                "-",
-                "-2147483649",
-                "'-2147483649'",
-                "-",
-            ],
-        ),
-        (
-            Base::U64,
-            Atom::Int(1),
-            ["true", "1", "1", "1", "1", "1", "1", "'1'", "-"],
-        ),
-        (
-            Base::U64,
-            Atom::Int(18_446_744_073_709_551_615),
-            [
-                "-",
-                "-",
-                "-",
-                "-",
-                "-",
-                "18446744073709551615",
-                "18446744073709551615",
-                "'18446744073709551615'",
-                "-",
-            ],
-        ),
-        (
-            Base::I128,
-            Atom::Int(0),
-            ["false", "0", "0", "0", "0", "0", "0", "'0'", "-"],
-        ),
-        (
-            Base::I128,
-            Atom::Int(18_446_744_073_709_551_616),
-            [
-                "-",
-                "-",
-                "-",
-                "-",
-                "-",
-                "-",
-                "18446744073709551616",
-                "'18446744073709551616'",
-                "-",
-            ],
-        ),
-        (
-            Base::I128,
-            Atom::Int(i128::MIN),
-            [
-                "-",
-                "-",
-                "-",
-                "-",
-                "-",
-                "-",
-                "-170141183460469231731687303715884105728",
-                "'-170141183460469231731687303715884105728'",
-                "-",
-            ],
-        ),
-        (
-            Base::Text,
-            text(alloc, "false")?,
-            ["false", "-", "-", "-", "-", "-", "-", "'false'", "-"],
-        ),
-        (
-            Base::Text,
-            text(alloc, "-007")?,
-            ["-", "-7", "-7", "-7", "-7", "-", "-7", "'-007'", "-"],
-        ),
-        (
-            Base::Text,
-            text(alloc, "18446744073709551615")?,
-            [
-                "-",
-                "-",
-                "-",
-                "-",
-                "-",
-                "18446744073709551615",
-                "18446744073709551615",
-                "'18446744073709551615'",
-                "-",
-            ],
-        ),
-        (
-            Base::Text,
-            Atom::Text(None),
-            ["-", "-", "-", "-", "-", "-", "-", "null", "-"],
-        ),
-        (
-            Base::Ref,
-            Atom::Ref(5),
-            ["-", "-", "-", "-", "-", "-", "-", "-", "~5"],
-        ),
-        (
-            Base::Ref,
-            Atom::Ref(0),
-            ["-", "-", "-", "-", "-", "-", "-", "-", "~0"],
-        ),
-    ] {
-        let value = Value::One(atom);
+    for (from, sample, wants) in &ROWS {
+        let value = Value::One(atom_of(alloc, sample)?);
         for (to, want) in BASES.iter().zip(wants.iter()) {
-            converts(&rt, alloc, &value, Kind::One(from), Kind::One(*to), want)?;
+            converts(&rt, alloc, &value, Kind::One(*from), Kind::One(*to), want)?;
         }
     }
     Ok(())
@@ -313,66 +334,28 @@ fn numbers(alloc: Global, numbers: &[i128]) -> Result<Value, AllocError> {
     Ok(Value::Many(Some(Atoms::from_vec(atoms))))
 }
 
+// Numbers of `i32`, and what their array is as another kind.
+const ARRAYS: [(&[i128], Kind, &str); 6] = [
+    (&[1, 0], Kind::Many(Base::Bool), "true;false;"),
+    (&[1, 0], Kind::Many(Base::Text), "'1';'0';"),
+    (&[1, 2], Kind::Many(Base::Bool), "-"),
+    (&[2, 1], Kind::Many(Base::Bool), "-"),
+    (&[], Kind::Many(Base::Ref), ""),
+    (&[1], Kind::One(Base::I32), "-"),
+];
+
 #[test]
 fn arrays_are_converted_as_wholes(rt: HostRuntime) -> Result<(), Fail> {
     let alloc = rt.alloc();
-    for (value, from, to, want) in [
-        (
-            numbers(alloc, &[1, 0])?,
-            Kind::Many(Base::I32),
-            Kind::Many(Base::Bool),
-            "true;false;",
-        ),
-        (
-            numbers(alloc, &[1, 0])?,
-            Kind::Many(Base::I32),
-            Kind::Many(Base::Text),
-            "'1';'0';",
-        ),
-        (
-            numbers(alloc, &[1, 2])?,
-            Kind::Many(Base::I32),
-            Kind::Many(Base::Bool),
-            "-",
-        ),
-        (
-            numbers(alloc, &[2, 1])?,
-            Kind::Many(Base::I32),
-            Kind::Many(Base::Bool),
-            "-",
-        ),
-        (
-            numbers(alloc, &[])?,
-            Kind::Many(Base::I32),
-            Kind::Many(Base::Ref),
-            "",
-        ),
-        (
-            Value::Many(None),
-            Kind::Many(Base::I32),
-            Kind::Many(Base::Ref),
-            "null array",
-        ),
-        (
-            Value::Many(None),
-            Kind::Many(Base::I32),
-            Kind::One(Base::I32),
-            "-",
-        ),
-        (
-            numbers(alloc, &[1])?,
-            Kind::Many(Base::I32),
-            Kind::One(Base::I32),
-            "-",
-        ),
-        (
-            Value::One(Atom::Int(1)),
-            Kind::One(Base::I32),
-            Kind::Many(Base::I32),
-            "-",
-        ),
-    ] {
-        converts(&rt, alloc, &value, from, to, want)?;
+    let many = Kind::Many(Base::I32);
+    for (elements, to, want) in &ARRAYS {
+        let value = numbers(alloc, elements)?;
+        converts(&rt, alloc, &value, many, *to, want)?;
     }
+    let null = Value::Many(None);
+    converts(&rt, alloc, &null, many, Kind::Many(Base::Ref), "null array")?;
+    converts(&rt, alloc, &null, many, Kind::One(Base::I32), "-")?;
+    let one = Value::One(Atom::Int(1));
+    converts(&rt, alloc, &one, Kind::One(Base::I32), many, "-")?;
     Ok(())
 }
