@@ -36,6 +36,7 @@ fn begins_and_ends_as_it_is_written(rt: HostRuntime) -> Result<(), Fail> {
     let text = script.as_slice();
     assert!(rt; text.starts_with(FIRST.as_bytes()));
     assert!(rt; text.ends_with(LAST.as_bytes()));
+    assert_eq!(rt; text.len(), 8_168);
     assert_eq!(rt; text.iter().filter(|byte| **byte == b'\n').count(), 202);
     Ok(())
 }
