@@ -13,6 +13,7 @@ use Rattle.oc_machine.specs.Memory.{with_all, detached}
 abbrev pub committed : State → State
 committed m = record m { committed = m.session; commits = m.commits + 1 }
 
+-- the session becomes the committed store; the answer counts the commits
 unfoldable pub commit_step : State → Outcome
 commit_step m = (committed m, answer.Committed (m.commits + 1))
 

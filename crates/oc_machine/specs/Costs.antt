@@ -93,6 +93,7 @@ convert_numbers m class field from =
 abbrev pub store_numbers : State → ℕ → ℕ → List ℕ
 store_numbers m h depth = numbers_in any m (best (store_walk m) (node.Live h) depth)
 
+-- the numbers whose records the line `make` writes, or its refusal
 abbrev pub make_numbers : State → Text → List Given → Checked (List ℕ)
 make_numbers m class gs =
     or_refuse (class_named m.session.schema class) word.Class >>= λ c.
@@ -129,6 +130,7 @@ len_of s n = unwrap_or (option_map record_len (at s.records n)) 0
 abbrev pub lens_of : Store → List ℕ → ℕ
 lens_of s ns = sum_by (len_of s) (each_once ns)
 
+-- twice the length of each record that is looked at
 abbrev pub peek_cost : State → Store → ℕ → ℕ → ℕ
 peek_cost m s n depth = 2 * lens_of s (peeked_numbers s n depth)
 

@@ -9,6 +9,7 @@ abbrev pub up_to : ℕ → List ℕ
 up_to zero = []
 up_to (suc n) = up_to n ++ suc n ∷ []
 
+-- the pilot of a turn
 abbrev pub pilot_line : ℕ → Text
 pilot_line i = line (codes "make Pilot { name: \"P" ++ decimal i ++ codes "\", points: " ++ decimal (37 * i % 101) ++ codes " }")
 
@@ -24,9 +25,11 @@ reading_line i = line (codes "make Reading { car: ~" ++ decimal (3 * i - 1) ++ c
 abbrev pub commit_line : ℕ → Text
 commit_line i = if i % 100 == 0 then line (codes "commit") else []
 
+-- all lines of a turn
 abbrev pub lines_of_one : ℕ → Text
 lines_of_one i = pilot_line i ++ car_line i ++ reading_line i ++ commit_line i
 
+-- the classes and their indexes
 abbrev pub first_lines : Text
 first_lines =
     line (codes "class Pilot { name: text, points: i32 }")
@@ -35,6 +38,7 @@ first_lines =
     ++ line (codes "index Pilot.points")
     ++ line (codes "index Reading.at")
 
+-- a renamed field, three queries and the last commit
 abbrev pub last_lines : Text
 last_lines =
     line (codes "rename Car.model to label")

@@ -20,24 +20,29 @@ use Rattle.oc_machine.specs.GrammarExpressions.{SpellsExpr, SpellsCriteria}
 
 -- ---- the words of settings and sides
 
+-- the word of a depth of the run
 abbrev pub run_depth_word : RunDepth → Text
 run_depth_word run_depth.Activation = codes "activation"
 run_depth_word run_depth.Update = codes "update"
 
+-- the word of a setting that takes a number
 abbrev pub number_word : NumberSetting → Text
 number_word setting.Minimum = codes "minimum"
 number_word setting.Maximum = codes "maximum"
 number_word setting.Update = codes "update"
 
+-- the word of a setting that is on or off
 abbrev pub flag_word : FlagSetting → Text
 flag_word flag.CascadeActivate = codes "cascade_activate"
 flag_word flag.CascadeUpdate = codes "cascade_update"
 flag_word flag.CascadeDelete = codes "cascade_delete"
 
+-- the word for on or off
 abbrev pub switch_word : Bool → Text
 switch_word true = codes "on"
 switch_word false = codes "off"
 
+-- the word for the committed objects or the session's
 abbrev pub side_word : SideText → Text
 side_word side.Committed = codes "committed"
 side_word side.Session = codes "session"
@@ -53,6 +58,7 @@ abbrev pub depth_tokens : Option ℕ → Tokens
 depth_tokens None = []
 depth_tokens (Some d) = Nat d ∷ []
 
+-- the tokens spell the command
 abbrev pub Spells : Command → Tokens → Type 0
 Spells (Class n parent ds) ts =
     IsName n × ((us vs : Tokens) × (Optionally (a_sign Colon) SpellsName parent us × (InBraces SpellsDecl ds vs × (ts ≡ a_word (codes "class") ∷ a_word n ∷ (us ++ vs)))))

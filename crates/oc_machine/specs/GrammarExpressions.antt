@@ -21,9 +21,11 @@ use Rattle.oc_machine.specs.GrammarValues.{Tokens, Spelling, SpellsName, Parted,
 abbrev pub SpellsPath : List Text → Tokens → Type 0
 SpellsPath p ts = (1 ≤ length p) × ((length p ≤ 16) × Parted (a_sign Dot) SpellsName p ts)
 
+-- the word for ascending or descending
 abbrev pub direction_word : CritText → Text
 direction_word c = elim c.ascending [ true ↦ codes "asc" | false ↦ codes "desc" ]
 
+-- a path and its direction
 abbrev pub SpellsCriterion : CritText → Tokens → Type 0
 SpellsCriterion c ts = (us : Tokens) × (SpellsPath c.path us × (ts ≡ us ++ a_word (direction_word c) ∷ []))
 
@@ -34,6 +36,7 @@ SpellsCriteria (c ∷ cs) ts = (us : Tokens) × (Parted (a_sign Comma) SpellsCri
 
 -- ---- what a path is asked
 
+-- a literal, by its one token or, for a number below 0, by two
 abbrev pub SpellsLiteral : Literal → Tokens → Type 0
 SpellsLiteral literal.Null ts = ts ≡ a_word (codes "null") ∷ []
 SpellsLiteral (literal.Bool true) ts = ts ≡ a_word (codes "true") ∷ []
@@ -41,6 +44,7 @@ SpellsLiteral (literal.Bool false) ts = ts ≡ a_word (codes "false") ∷ []
 SpellsLiteral (literal.Int n) ts = SpellsInt n ts
 SpellsLiteral (literal.Text t) ts = ts ≡ a_text t ∷ []
 
+-- the sign of a comparison
 abbrev pub compare_sign : CompareOp → Sign
 compare_sign op.Equal = Equal
 compare_sign op.Less = Less
@@ -48,6 +52,7 @@ compare_sign op.AtMost = AtMost
 compare_sign op.Greater = Greater
 compare_sign op.AtLeast = AtLeast
 
+-- the word of a test on a text
 abbrev pub text_word : TextOp → Text
 text_word text_op.Like = codes "like"
 text_word text_op.Contains = codes "contains"
@@ -78,9 +83,11 @@ SpellsFactor Inner e ts =
 abbrev pub SpellsJoined : Text → (List ExprText → ExprText) → Spelling ExprText → ExprText → Tokens → Type 0
 SpellsJoined word join Part e ts = Part e ts ⊎ ((es : List ExprText) × ((2 ≤ length es) × ((e ≡ join es) × Parted (a_word word) Part es ts)))
 
+-- a factor, or two and more with `and` between them
 abbrev pub SpellsTerm : Spelling ExprText → ExprText → Tokens → Type 0
 SpellsTerm Inner e ts = SpellsJoined (codes "and") And (SpellsFactor Inner) e ts
 
+-- a term, or two and more with `or` between them
 abbrev pub SpellsTerms : Spelling ExprText → ExprText → Tokens → Type 0
 SpellsTerms Inner e ts = SpellsJoined (codes "or") Or (SpellsTerm Inner) e ts
 
@@ -89,5 +96,6 @@ abbrev pub SpellsWithin : ℕ → ExprText → Tokens → Type 0
 SpellsWithin zero e ts = ⊥
 SpellsWithin (suc n) e ts = SpellsTerms (SpellsWithin n) e ts
 
+-- an expression, however deep its parentheses are
 abbrev pub SpellsExpr : ExprText → Tokens → Type 0
 SpellsExpr e ts = (n : ℕ) × SpellsWithin n e ts

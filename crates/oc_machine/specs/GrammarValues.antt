@@ -17,6 +17,7 @@ use Rattle.oc_machine.specs.declared.token.Token.{Token}
 use Rattle.oc_machine.specs.declared.token.Token.TheVariants.{Word as a_word, Nat, Minus, Num, Text as a_text, Sign as a_sign}
 use Rattle.oc_machine.specs.Parsers.{is_reserved}
 
+-- the tokens of a line or of a part of one
 abbrev pub Tokens : Type 0
 Tokens = List Token
 
@@ -26,9 +27,11 @@ Spelling A = A → Tokens → Type 0
 
 -- ---- names and what may be missing
 
+-- a word that isn't reserved
 abbrev pub IsName : Text → Type 0
 IsName n = is_reserved n ≡ false
 
+-- a word that is a name
 abbrev pub SpellsName : Text → Tokens → Type 0
 SpellsName n ts = IsName n × (ts ≡ a_word n ∷ [])
 
@@ -53,11 +56,13 @@ Parted {A} t Spells (x ∷ xs) ts = (us vs : Tokens) × (Spells x us × (Behind 
 abbrev pub Enclosed : {A : Type 0} → Sign → Sign → Spelling A → List A → Tokens → Type 0
 Enclosed {A} left right Spells xs ts = (us : Tokens) × (Parted (a_sign Comma) Spells xs us × (ts ≡ a_sign left ∷ (us ++ a_sign right ∷ [])))
 
+-- things in braces with commas between them
 abbrev pub InBraces : {A : Type 0} → Spelling A → List A → Tokens → Type 0
 InBraces {A} Spells xs ts = Enclosed OpenBrace CloseBrace Spells xs ts
 
 -- ---- kinds
 
+-- the word of a base
 abbrev pub base_word : Base → Text
 base_word base.Bool = codes "bool"
 base_word base.I8 = codes "i8"
@@ -69,10 +74,12 @@ base_word base.I128 = codes "i128"
 base_word base.Text = codes "text"
 base_word base.Ref = codes "ref"
 
+-- the word of a base, in brackets for an array
 abbrev pub SpellsKind : Kind → Tokens → Type 0
 SpellsKind (kind.One b) ts = ts ≡ a_word (base_word b) ∷ []
 SpellsKind (kind.Many b) ts = ts ≡ a_sign OpenBracket ∷ a_word (base_word b) ∷ a_sign CloseBracket ∷ []
 
+-- a name, a colon, a kind
 abbrev pub SpellsDecl : Decl → Tokens → Type 0
 SpellsDecl d ts = IsName d.name × ((us : Tokens) × (SpellsKind d.kind us × (ts ≡ a_word d.name ∷ a_sign Colon ∷ us)))
 
@@ -82,6 +89,7 @@ SpellsDecl d ts = IsName d.name × ((us : Tokens) × (SpellsKind d.kind us × (t
 abbrev pub SpellsInt : ℤ → Tokens → Type 0
 SpellsInt n ts = (k : ℕ) × (((n ≡ pos k) × (ts ≡ Nat k ∷ [])) ⊎ ((n ≡ neg_ℤ (pos k)) × (ts ≡ Minus k ∷ [])))
 
+-- a single value, by its one token or, for a number below 0, by two
 abbrev pub SpellsSingle : Single → Tokens → Type 0
 SpellsSingle single.Null ts = ts ≡ a_word (codes "null") ∷ []
 SpellsSingle (single.Bool true) ts = ts ≡ a_word (codes "true") ∷ []
@@ -91,9 +99,11 @@ SpellsSingle (single.Text t) ts = ts ≡ a_text t ∷ []
 SpellsSingle (single.Name n) ts = SpellsName n ts
 SpellsSingle (single.Num n) ts = ts ≡ Num n ∷ []
 
+-- a single value, or single values in brackets with commas between them
 abbrev pub SpellsValue : ValueText → Tokens → Type 0
 SpellsValue (valued.One v) ts = SpellsSingle v ts
 SpellsValue (valued.Many vs) ts = Enclosed OpenBracket CloseBracket SpellsSingle vs ts
 
+-- a field's name, a colon, its value
 abbrev pub SpellsGiven : Given → Tokens → Type 0
 SpellsGiven g ts = IsName g.name × ((us : Tokens) × (SpellsValue g.value us × (ts ≡ a_word g.name ∷ a_sign Colon ∷ us)))

@@ -33,9 +33,11 @@ Read A = Option (A × ℕ)
 abbrev pub is_blank : ℕ → Bool
 is_blank c = c == 32 || c == 9 || c == 13
 
+-- a letter or `_`
 abbrev pub begins_word : ℕ → Bool
 begins_word c = is_ascii_alphabetic c || c == 95
 
+-- a letter, a digit or `_`
 abbrev pub in_word : ℕ → Bool
 in_word c = is_ascii_alphanumeric c || c == 95
 
@@ -61,6 +63,7 @@ escaped c =
     else if c == 116 then Some 9
     else None
 
+-- the value of a hexadecimal digit of either case
 abbrev pub hex_digit : ℕ → Option ℕ
 hex_digit c =
     if is_ascii_digit c then Some (c - 48)
@@ -99,6 +102,7 @@ abbrev pub with_equal : Sign → Sign → Text → Read Token
 with_equal alone both [] = Some (a.Sign alone, 0)
 with_equal alone both (c ∷ t) = if c == 61 then Some (a.Sign both, 1) else Some (a.Sign alone, 0)
 
+-- the sign that a character is by itself
 abbrev pub lone_sign : ℕ → Option Sign
 lone_sign c =
     if c == 123 then Some OpenBrace
@@ -113,6 +117,7 @@ lone_sign c =
     else if c == 61 then Some Equal
     else None
 
+-- `<` and `>` with the `=` behind them if there is one, or a sign of one character
 unfoldable pub sign : ℕ → Text → Read Token
 sign c t =
     if c == 60 then with_equal Less AtMost t

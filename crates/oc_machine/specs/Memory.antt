@@ -55,6 +55,7 @@ with_new m o = record m { live = with_at m.live m.next_handle o; next_handle = m
 abbrev pub stub_of : ℕ → Rec → Live
 stub_of n r = record { class = r.class; number = Some n; active = false; entries = [] }
 
+-- with a new inactive object of the number, if a record is there
 abbrev pub with_stub : State → ℕ → Option Rec → State
 with_stub m n None = m
 with_stub m n (Some r) = with_new m (stub_of n r)
@@ -69,6 +70,7 @@ all_woken m ns = fold woken m (sorted nat_cmp ns)
 
 -- ---- references as numbers and as handles
 
+-- a single value with its reference changed, null where it is null
 abbrev pub atom_by : (ℕ → ℕ) → Atom → Atom
 atom_by r (atom.Ref n) = atom.Ref (if n == 0 then 0 else r n)
 atom_by r a = a
@@ -79,6 +81,7 @@ value_by r (value.One a) = value.One (atom_by r a)
 value_by r (value.Many None) = value.Many None
 value_by r (value.Many (Some items)) = value.Many (Some (map (atom_by r) items))
 
+-- the entries with each reference changed
 abbrev pub entries_by : (ℕ → ℕ) → List Entry → List Entry
 entries_by r es = map (λ e. record { id = e.id; value = value_by r e.value; kind = e.kind }) es
 
@@ -86,6 +89,7 @@ entries_by r es = map (λ e. record { id = e.id; value = value_by r e.value; kin
 abbrev pub to_handle : State → ℕ → ℕ
 to_handle m n = unwrap_or (handle_of m n) 0
 
+-- the number of a live object, if it is there and has one
 abbrev pub number_at : Option Live → Option ℕ
 number_at None = None
 number_at (Some o) = o.number
@@ -107,6 +111,7 @@ filled_of m n r =
       entries = written m.session.schema r.class (entries_by (to_handle m) r.entries) [];
     }
 
+-- with the live object of the handle active, with the record's values; unchanged where either is missing
 abbrev pub filled_from : State → ℕ → Option ℕ → Option Rec → State
 filled_from m n (Some h) (Some r) = with_live m h (filled_of m n r)
 filled_from m n _ _ = m
@@ -115,6 +120,7 @@ filled_from m n _ _ = m
 abbrev pub filled : State → ℕ → State
 filled m n = filled_from m n (handle_of m n) (at m.session.records n)
 
+-- the numbers that a record names in fields that are current
 abbrev pub record_named : State → Option Rec → List ℕ
 record_named m None = []
 record_named m (Some r) = named_in m.session.schema r.class r.entries
@@ -139,6 +145,7 @@ with_all test change m = record m { live = map (λ (e : ℕ × Live). (e.0, if t
 
 -- ---- what a walk reached
 
+-- the handle of a live node
 abbrev pub handle_in : Node → Option ℕ
 handle_in (node.Live h) = Some h
 handle_in (node.Number n) = None
@@ -152,6 +159,7 @@ abbrev pub number_if : (Live → Bool) → Option Live → Option ℕ
 number_if test None = None
 number_if test (Some o) = if test o then o.number else None
 
+-- the number of a node that is not live, or of a live one for which the test holds
 abbrev pub node_number : (Live → Bool) → State → Node → Option ℕ
 node_number test m (node.Live h) = number_if test (at m.live h)
 node_number test m (node.Number n) = Some n

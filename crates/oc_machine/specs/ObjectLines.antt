@@ -42,6 +42,7 @@ made m c fs =
 abbrev pub with_name : State → Text → ℕ → State
 with_name m name h = record m { names = with_bound m.names name h }
 
+-- a new object, with a name bound to it
 unfoldable pub new_step : State → Text → Text → List Given → Checked Outcome
 unfolding checked made
 new_step m name class gs =
@@ -57,6 +58,7 @@ with_values m h o fs =
     let w = all_woken m (numbers_given fs) in
     with_live w h (record { class = o.class; number = o.number; active = o.active; entries = with_given w o.entries fs })
 
+-- the field of a named object gets a value
 unfoldable pub let_step : State → Text → Text → ValueText → Checked Outcome
 unfolding checked
 let_step m name field x =
@@ -67,11 +69,13 @@ let_step m name field x =
 
 -- ---- bind
 
+-- a name for the live object of a stored number, which is there from now on
 unfoldable pub bind_number_step : State → Text → ℕ → Checked Outcome
 bind_number_step m name n =
     unless (is_stored m.session n) word.Live >>
     (let w = woken m n in done (with_name w name (to_handle w n)))
 
+-- a single reference
 abbrev pub is_reference : Kind → Bool
 is_reference (kind.One base.Ref) = true
 is_reference k = false
@@ -81,6 +85,7 @@ abbrev pub named_by : Value → Option ℕ
 named_by (value.One (atom.Ref h)) = if h == 0 then None else Some h
 named_by v = None
 
+-- a name for what a field of a named object refers to
 unfoldable pub bind_field_step : State → Text → Text → Text → Checked Outcome
 unfolding field_named
 bind_field_step m name source field =
@@ -93,6 +98,7 @@ bind_field_step m name source field =
 
 -- ---- forget, names and purge
 
+-- a name is bound to nothing any more
 unfoldable pub forget_step : State → Text → Checked Outcome
 forget_step m name =
     unless (is_some (bound m.names name)) word.Name >>
@@ -103,15 +109,18 @@ abbrev pub mark_of : ℕ → Option ℕ → Mark
 mark_of h None = mark.Handle h
 mark_of h (Some n) = mark.Number n
 
+-- a bound name with its object, as it is listed
 abbrev pub name_line : State → Text × ℕ → Option NameLine
 name_line m e = elim (at m.live e.1) [
   | None ↦ None
   | Some o ↦ Some (record { name = e.0; mark = mark_of e.1 o.number; active = is_awake o })
 ]
 
+-- the bound names
 unfoldable pub names_step : State → Checked Outcome
 names_step m = Ok (m, answer.Names (filter_map (name_line m) m.names))
 
+-- the object is live without its number from now on
 unfoldable pub purge_step : State → Text → Checked Outcome
 purge_step m name =
     live_named m name >>= λ o.
@@ -120,18 +129,22 @@ purge_step m name =
 
 -- ---- config
 
+-- the state under other settings
 abbrev pub with_settings : State → Settings → State
 with_settings m s = record m { settings = s }
 
+-- the settings with this depth
 abbrev pub run_depth : RunDepth → ℕ → Settings → Settings
 run_depth depth.Activation k s = record s { activation = k }
 run_depth depth.Update k s = record s { update = k }
 
+-- the class's settings with this number
 abbrev pub number_setting : NumberSetting → ℕ → ClassSettings → ClassSettings
 number_setting number.Minimum k s = record s { minimum = k }
 number_setting number.Maximum k s = record s { maximum = k }
 number_setting number.Update k s = record s { update = Some k }
 
+-- the class's settings with this switch on or off
 abbrev pub flag_setting : FlagSetting → Bool → ClassSettings → ClassSettings
 flag_setting flag.CascadeActivate on s = record s { cascade_activate = on }
 flag_setting flag.CascadeUpdate on s = record s { cascade_update = on }
@@ -141,15 +154,18 @@ flag_setting flag.CascadeDelete on s = record s { cascade_delete = on }
 abbrev pub with_class_settings : State → ℕ → (ClassSettings → ClassSettings) → State
 with_class_settings m c change = with_settings m (record m.settings { classes = with_at m.settings.classes c (change (settings_of m.settings c)) })
 
+-- a depth for the run
 unfoldable pub config_run_step : State → RunDepth → ℕ → Checked Outcome
 config_run_step m which k = unless (nat_le k 65535) word.Size >> done (with_settings m (run_depth which k m.settings))
 
+-- a number for a class
 unfoldable pub config_number_step : State → Text → NumberSetting → ℕ → Checked Outcome
 config_number_step m class setting k =
     or_refuse (class_named m.session.schema class) word.Class >>= λ c.
     unless (nat_le k 65535) word.Size >>
     done (with_class_settings m c (number_setting setting k))
 
+-- a switch of a class
 unfoldable pub config_flag_step : State → Text → FlagSetting → Bool → Checked Outcome
 config_flag_step m class setting on =
     or_refuse (class_named m.session.schema class) word.Class >>= λ c. done (with_class_settings m c (flag_setting setting on))

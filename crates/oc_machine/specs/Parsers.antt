@@ -18,6 +18,7 @@ infixl 9 ◌>=>◌
 abbrev pub ◌>=>◌ : {A B : Type 0} → Parser A → (A → Parser B) → Parser B
 p >=> f = λ ts. p ts >>= λ r. f r.0 r.1
 
+-- the value itself, with no token read
 abbrev pub pure : {A : Type 0} → A → Parser A
 pure a ts = Some (a, ts)
 
@@ -27,6 +28,7 @@ fails ts = None
 
 -- ---- which token comes next
 
+-- the same sign
 abbrev pub same_sign : Sign → Sign → Bool
 same_sign OpenBrace OpenBrace = true
 same_sign CloseBrace CloseBrace = true
@@ -44,10 +46,12 @@ same_sign Greater Greater = true
 same_sign AtLeast AtLeast = true
 same_sign _ _ = false
 
+-- the token is this sign
 abbrev pub is_sign : Sign → Token → Bool
 is_sign s (a_sign r) = same_sign s r
 is_sign s _ = false
 
+-- the token is this word
 abbrev pub is_word : Text → Token → Bool
 is_word w (a_word t) = same t w
 is_word w _ = false
@@ -88,10 +92,12 @@ word_as f _ = None
 abbrev pub is_reserved : Text → Bool
 is_reserved t = list_any (same t) reserved_words
 
+-- a word that isn't reserved
 abbrev pub name : Parser Text
 name (a_word t ∷ ts) = not (is_reserved t) >> Some (t, ts)
 name _ = None
 
+-- a whole number without a sign
 abbrev pub nat : Parser ℕ
 nat (Nat n ∷ ts) = Some (n, ts)
 nat _ = None

@@ -35,13 +35,16 @@ escape c =
     else if nat_lt c 32 || c == 127 then codes "\\x" ++ hex (c / 16) ∷ hex (c % 16) ∷ []
     else c ∷ []
 
+-- a text in quotes, with its escapes
 abbrev pub quoted : Text → Text
 quoted t = codes "\"" ++ flat_map escape t ++ codes "\""
 
+-- `~` and the number, or `!` and the handle of an unsaved object
 abbrev pub mark_text : Mark → Text
 mark_text (mark.Number n) = codes "~" ++ decimal n
 mark_text (mark.Handle h) = codes "!" ++ decimal h
 
+-- a single value as it is printed
 abbrev pub atom_text : ShownAtom → Text
 atom_text (atom.Bool true) = codes "true"
 atom_text (atom.Bool false) = codes "false"
@@ -57,19 +60,23 @@ joined sep [] = []
 joined sep (t ∷ []) = t
 joined sep (t ∷ u ∷ ts) = t ++ sep ++ joined sep (u ∷ ts)
 
+-- a single value, or an array in brackets
 abbrev pub value_text : ShownValue → Text
 value_text (value.One a) = atom_text a
 value_text (value.Many None) = codes "null"
 value_text (value.Many (Some items)) = codes "[" ++ joined (codes ", ") (map atom_text items) ++ codes "]"
 
+-- a field's name and value, with a blank before it
 abbrev pub field_text : ShownField → Text
 field_text f = codes " " ++ f.name ++ codes ": " ++ value_text f.value
 
 -- ---- lines
 
+-- a text with the end of its line
 abbrev pub line : Text → Text
 line t = t ++ 10 ∷ []
 
+-- the fields in braces, or `stub`
 abbrev pub fields_text : Shown → Text
 fields_text shown.Stub = codes " stub"
 fields_text (shown.Fields fs) = codes " {" ++ joined (codes ",") (map field_text fs) ++ codes " }"
@@ -79,6 +86,7 @@ unfoldable pub object_line : ObjectLine → Text
 unfolding decimals
 object_line o = line (mark_text o.mark ++ codes " " ++ o.class ++ fields_text o.fields)
 
+-- the word of a refusal
 abbrev pub word_text : Word → Text
 word_text word.Syntax = codes "syntax"
 word_text word.Long = codes "long"
@@ -104,6 +112,7 @@ state_text n = elim n.mark [
   | mark.Number k ↦ if n.active then codes "active" else codes "stub"
 ]
 
+-- the line of a bound name
 unfoldable pub name_line : NameLine → Text
 unfolding decimals
 name_line n = line (n.name ++ codes " " ++ mark_text n.mark ++ codes " " ++ state_text n)

@@ -40,11 +40,13 @@ abbrev pub first_is_field : Schema → ℕ → List Text → Bool
 first_is_field s c [] = false
 first_is_field s c (name ∷ path) = is_field_below s c name
 
+-- refused unless the path begins at a field of the class
 abbrev pub path_checked : State → ℕ → List Text → Checked (Unit {0})
 path_checked m c path = unless (first_is_field m.session.schema c path) word.Field
 
 -- ---- constraints
 
+-- the test that a sign names
 abbrev pub op_of : CompareOp → Op
 op_of compare.Equal = op.Equal
 op_of compare.Less = op.Less
@@ -52,6 +54,7 @@ op_of compare.AtMost = op.AtMost
 op_of compare.Greater = op.Greater
 op_of compare.AtLeast = op.AtLeast
 
+-- the test on texts that a word names
 abbrev pub text_op_of : TextOp → Op
 text_op_of text.Like = op.Like
 text_op_of text.Contains = op.Contains
@@ -100,9 +103,11 @@ filter_of m c (Some e) = resolved m c e
 
 -- ---- criteria
 
+-- what one order says, or its refusal
 abbrev pub criterion_of : State → ℕ → CritText → Checked Criterion
 criterion_of m c t = path_checked m c t.path >> Ok (record { path = t.path; ascending = t.ascending })
 
+-- what each order says, or the first refusal
 abbrev pub criteria_of : State → ℕ → List CritText → Checked (List Criterion)
 criteria_of m c [] = Ok []
 criteria_of m c (t ∷ ts) = criterion_of m c t >>= λ k. criteria_of m c ts >>= λ ks. Ok (k ∷ ks)
@@ -115,6 +120,7 @@ pub record Asked : Type 0 where
   pub expr : Expr
   pub criteria : List Criterion
 
+-- what a `query` asks, or its first refusal
 unfoldable pub asked_by_query : State → Text → Option ExprText → List CritText → Checked Asked
 unfolding resolved is_field_below
 asked_by_query m class filter criteria =
@@ -123,6 +129,7 @@ asked_by_query m class filter criteria =
     criteria_of m c criteria >>= λ ks.
     Ok (record { class = c; expr = e; criteria = ks })
 
+-- what an `example` asks, or its refusal
 unfoldable pub asked_by_example : State → Text → Checked Asked
 unfolding example
 asked_by_example m name = example_named m name >>= λ e. Ok (record { class = e.0; expr = e.1; criteria = [] })
@@ -132,10 +139,12 @@ unfoldable pub found_lines : State → Asked → Outcome
 unfolding answer_of stored_line
 found_lines m q = (m, answer.Found (filter_map (stored_line m.session) (answer_of m.session q.class q.expr q.criteria)))
 
+-- the objects found by a query
 unfoldable pub query_step : State → Text → Option ExprText → List CritText → Checked Outcome
 unfolding asked_by_query found_lines
 query_step m class filter criteria = asked_by_query m class filter criteria >>= λ q. Ok (found_lines m q)
 
+-- the objects found by an example
 unfoldable pub example_step : State → Text → Checked Outcome
 unfolding asked_by_example found_lines
 example_step m name = asked_by_example m name >>= λ q. Ok (found_lines m q)

@@ -23,18 +23,21 @@ use Rattle.oc_machine.specs.Parsers.{Parser, ◌>=>◌, pure, fails, next_is, ne
 unfoldable pub path : Parser (List Text)
 path ts = separated_by (next_is Dot) name ts >>= λ r. nat_le (length r.0) 16 >> Some r
 
+-- ascending or descending
 abbrev pub direction_named : Text → Option Bool
 direction_named t =
     if same t (codes "asc") then Some true
     else if same t (codes "desc") then Some false
     else None
 
+-- a path and its direction
 unfoldable pub criterion : Parser CritText
 unfolding path
 criterion = path >=> λ p. word_as direction_named >=> λ a. pure (record { path = p; ascending = a })
 
 -- ---- what a path is asked
 
+-- the literals that are words
 abbrev pub literal_named : Text → Option Literal
 literal_named t =
     if same t (codes "null") then Some literal.Null
@@ -50,16 +53,20 @@ literal_of (Minus n) = Some (literal.Int (neg_ℤ (pos n)))
 literal_of (a_text t) = Some (literal.Text t)
 literal_of _ = None
 
+-- the token of a literal
 abbrev pub a_literal : Parser Literal
 a_literal = token_as literal_of
 
+-- the text of a token in quotes
 abbrev pub text_of : Token → Option Text
 text_of (a_text t) = Some t
 text_of _ = None
 
+-- a token in quotes
 abbrev pub quoted_text : Parser Text
 quoted_text = token_as text_of
 
+-- the comparison of a sign
 abbrev pub compare_op : Sign → Option CompareOp
 compare_op Equal = Some op.Equal
 compare_op Less = Some op.Less
@@ -68,9 +75,11 @@ compare_op Greater = Some op.Greater
 compare_op AtLeast = Some op.AtLeast
 compare_op _ = None
 
+-- the literal behind a comparison
 abbrev pub compared : List Text → CompareOp → Parser ExprText
 compared p o = a_literal >=> λ l. pure (expr.Compare p o l)
 
+-- the text behind a test on texts
 abbrev pub matched : List Text → TextOp → Parser ExprText
 matched p o = quoted_text >=> λ t. pure (expr.Match p o t)
 
@@ -91,6 +100,7 @@ asked p (a_sign s ∷ ts) = compare_op s >>= λ o. compared p o ts
 asked p (a_word w ∷ ts) = asked_by_word p w ts
 asked p _ = None
 
+-- a path, and what is asked of its values
 unfoldable pub atom : Parser ExprText
 unfolding path
 atom = path >=> asked
@@ -107,6 +117,7 @@ unfoldable pub operand : Parser ExprText → Parser ExprText
 unfolding atom
 operand inner = if_next (next_is OpenParenthesis) (inner >=> λ e. expect CloseParenthesis >=> λ _. pure e) atom
 
+-- an operand, with `not` before it or without
 unfoldable pub factor : Parser ExprText → Parser ExprText
 unfolding operand
 factor inner = if_next (next_says (codes "not")) (operand inner >=> λ e. pure (expr.Not e)) (operand inner)

@@ -19,6 +19,7 @@ use Rattle.oc_machine.specs.Parsers.{Parser, ◌>=>◌, pure, next_is, expect, t
 
 -- ---- kinds
 
+-- the base of a word
 abbrev pub base_named : Text → Option Base
 base_named t =
     if same t (codes "bool") then Some base.Bool
@@ -32,6 +33,7 @@ base_named t =
     else if same t (codes "ref") then Some base.Ref
     else None
 
+-- the word of a base
 abbrev pub a_base : Parser Base
 a_base = word_as base_named
 
@@ -39,6 +41,7 @@ a_base = word_as base_named
 unfoldable pub a_kind : Parser Kind
 a_kind = if_next (next_is OpenBracket) (a_base >=> λ b. expect CloseBracket >=> λ _. pure (kind.Many b)) (a_base >=> λ b. pure (kind.One b))
 
+-- a name, a colon, a kind
 unfoldable pub decl : Parser Decl
 unfolding a_kind
 decl = name >=> λ n. expect Colon >=> λ _. a_kind >=> λ k. pure (record { name = n; kind = k })
@@ -62,6 +65,7 @@ single_of (Num n) = Some (single.Num n)
 single_of (a_text t) = Some (single.Text t)
 single_of (a_sign s) = None
 
+-- the token of a single value
 abbrev pub a_single : Parser Single
 a_single = token_as single_of
 
@@ -69,6 +73,7 @@ a_single = token_as single_of
 unfoldable pub a_value : Parser ValueText
 a_value = if_next (next_is OpenBracket) (up_to CloseBracket a_single >=> λ vs. pure (valued.Many vs)) (a_single >=> λ v. pure (valued.One v))
 
+-- a field's name, a colon, its value
 unfoldable pub given : Parser Given
 unfolding a_value
 given = name >=> λ n. expect Colon >=> λ _. a_value >=> λ v. pure (record { name = n; value = v })

@@ -56,6 +56,7 @@ pub record Since : Type 0 where
   -- the objects that were written or deleted
   pub numbers : List ℕ
 
+-- nothing changed yet
 abbrev pub nothing_since : Since
 nothing_since = record { changed = false; numbers = [] }
 
@@ -65,6 +66,7 @@ with_change s ns = record { changed = true; numbers = each_once (ns ++ s.numbers
 
 -- ---- the records of a line
 
+-- the records that the line `make` writes, or its refusal
 abbrev pub made_changes : State → Text → List Given → Checked (Map Rec)
 made_changes m class gs =
     or_refuse (class_named m.session.schema class) word.Class >>= λ c.
@@ -137,14 +139,17 @@ pub record Expense : Type 0 where
   pub asks : ℕ
   pub accepted : Bool
 
+-- the line was answered, and not refused
 abbrev pub is_accepted : Option Answer → Bool
 is_accepted None = false
 is_accepted (Some a) = not (is_refusal a)
 
+-- what the command of a line asks, nothing where there is none
 abbrev pub read_asked : Form → Since → State → Reading → ℕ
 read_asked f s m (reads c) = asked f s m c
 read_asked f s m r = 0
 
+-- what has changed behind a line, if it was accepted
 abbrev pub since_reading : Since → State → Reading → Bool → Since
 since_reading s m (reads c) true = since_line s m c
 since_reading s m r accepted = s

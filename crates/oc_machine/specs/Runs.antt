@@ -24,6 +24,7 @@ use Rattle.oc_machine.specs.Machine.{step}
 
 -- ---- the lines of a script
 
+-- a character before the first line, which is begun where there is none
 abbrev pub onto_first : ℕ → List Text → List Text
 onto_first c [] = (c ∷ []) ∷ []
 onto_first c (l ∷ ls) = (c ∷ l) ∷ ls
@@ -78,6 +79,7 @@ asks_room (Convert class field from) = true
 asks_room Commit = true
 asks_room c = false
 
+-- the answer is a refusal
 abbrev pub is_refusal : Answer → Bool
 is_refusal (answer.Refused w) = true
 is_refusal _ = false
@@ -98,6 +100,7 @@ read_step full m (reads c) = let r = step_or_full full m c in (r.0, Some r.1)
 abbrev pub built_step : Built → Bool → State → Reading → State × Option Answer
 built_step built full m r = if built m r then read_step full m r else (m, Some (answer.Refused word.Syntax))
 
+-- the state behind a line, and its answer
 unfoldable pub line_step : Built → Bool → State → Text → State × Option Answer
 unfolding step
 line_step built full m line = built_step built full m (reading line)
@@ -110,6 +113,7 @@ answers_from built F i m [] = []
 answers_from built F i m (l ∷ ls) =
     let r = line_step built (is_in F i) m l in option_to_list r.1 ++ answers_from built F (i + 1) r.0 ls
 
+-- the state behind the lines, where those in the list find no room
 abbrev pub state_after : Built → List ℕ → ℕ → State → List Text → State
 state_after built F i m [] = m
 state_after built F i m (l ∷ ls) = state_after built F (i + 1) (line_step built (is_in F i) m l).0 ls
@@ -118,6 +122,7 @@ state_after built F i m (l ∷ ls) = state_after built F (i + 1) (line_step buil
 abbrev pub closes_full : List ℕ → Text → Bool
 closes_full F script = is_in F (length (lines_of script) + 1)
 
+-- the last text of a run, which tells whether the closing commit found room
 abbrev pub closing : Bool → Text
 closing full = if full then codes "error full\nabandoned\n" else codes "closed\n"
 

@@ -52,6 +52,7 @@ with_class_changed m None s = set_schema m s
 with_class_changed m (Some c) s =
     if differs m.session.schema s then with_all (λ h o. is_live_of s c o) (declared_again s) (set_schema m s) else m
 
+-- The class is new, or is given these parent and fields, and live objects of it and below take the change.
 unfoldable pub class_step : State → Text → Option Text → List Decl → Checked Outcome
 unfolding declared differs fields_of is_sub
 class_step m name parent ds =
@@ -59,14 +60,17 @@ class_step m name parent ds =
 
 -- ---- rename and index
 
+-- the class under another name, which no object notices
 unfoldable pub rename_class_step : State → Text → Text → Checked Outcome
 unfolding class_renamed
 rename_class_step m class to = class_renamed m.session.schema class to >>= λ s. done (set_schema m s)
 
+-- the field under another name, which no object notices
 unfoldable pub rename_field_step : State → Text → Text → Text → Checked Outcome
 unfolding field_renamed
 rename_field_step m class field to = field_renamed m.session.schema class field to >>= λ s. done (set_schema m s)
 
+-- the field with an index, or without one
 unfoldable pub index_step : State → Text → Text → Bool → Checked Outcome
 unfolding index_set
 index_step m class field on = index_set m.session.schema class field on >>= λ s. done (set_schema m s)
@@ -110,6 +114,7 @@ with_records m changes =
 abbrev pub is_stored_of : Schema → ℕ → Live → Bool
 is_stored_of s c o = o.active && not (is_unsaved o) && is_live_of s c o
 
+-- Records of the class take the values of the past field into the current one, and its stored objects become inactive.
 unfoldable pub convert_step : State → Text → Text → Kind → Checked Outcome
 unfolding conversion_of conversions is_sub
 convert_step m class field from =

@@ -24,6 +24,7 @@ use Rattle.oc_model.specs.Nodes.{is_stored}
 abbrev pub stored_mark : Store → ℕ → Option Mark
 stored_mark s n = if is_stored s n then Some (mark.Number n) else None
 
+-- a single value as it is shown, with a mark for a reference
 abbrev pub shown_atom_by : (ℕ → Option Mark) → Atom → ShownAtom
 shown_atom_by r (atom.Bool b) = shown_atom.Bool b
 shown_atom_by r (atom.Int n) = shown_atom.Int n
@@ -40,6 +41,7 @@ shown_value_by r (value.Many (Some items)) = shown_value.Many (Some (map (shown_
 abbrev pub shown_fields : (ℕ → Option Mark) → List FieldDef → List Entry → Shown
 shown_fields r fs es = shown.Fields (map (λ f. record { name = f.name; value = shown_value_by r (value_in es f.id f.kind) }) fs)
 
+-- the name of a class, empty where there is none
 abbrev pub class_name : Schema → ℕ → Text
 class_name s c = unwrap_or (option_map (λ d. d.name) (class_at s c)) []
 

@@ -34,6 +34,7 @@ single_found m (single.Name name) = unless (is_some (bound m.names name)) word.N
 single_found m (single.Num n) = unless (is_stored m.session n) word.Live
 single_found m s = Ok tt
 
+-- refused where one of the values names nothing
 abbrev pub singles_found : State → List Single → Checked (Unit {0})
 singles_found m [] = Ok tt
 singles_found m (s ∷ ss) = single_found m s >> singles_found m ss
@@ -90,6 +91,7 @@ checked m c seen (g ∷ gs) =
 
 -- ---- entries
 
+-- the number that a value names
 abbrev pub numbers_in_single : Single → List ℕ
 numbers_in_single (single.Num n) = n ∷ []
 numbers_in_single s = []
@@ -99,6 +101,7 @@ abbrev pub numbers_in_value : ValueText → List ℕ
 numbers_in_value (valued.One s) = numbers_in_single s
 numbers_in_value (valued.Many ss) = flat_map numbers_in_single ss
 
+-- the numbers that given values name
 abbrev pub numbers_given : FieldValues → List ℕ
 numbers_given fs = flat_map (λ p. numbers_in_value p.1) fs
 

@@ -32,6 +32,7 @@ use Rattle.oc_machine.specs.Showing.{class_name, shown_fields, stored_line}
 abbrev pub depth_checked : ℕ → Checked (Unit {0})
 depth_checked depth = unless (nat_le depth 65535) word.Size
 
+-- refused where a depth is stated and is too great
 abbrev pub stated_depth_checked : Option ℕ → Checked (Unit {0})
 stated_depth_checked depth = depth_checked (unwrap_or depth 0)
 
@@ -99,6 +100,7 @@ stored m h depth =
 abbrev pub store_depth : State → ℕ → ℕ
 store_depth m c = unwrap_or (settings_of m.settings c).update m.settings.update
 
+-- the objects that `store` reaches are written
 unfoldable pub store_step : State → Text → Option ℕ → Checked Outcome
 unfolding stored
 store_step m name depth =
@@ -108,6 +110,7 @@ store_step m name depth =
 
 -- ---- make
 
+-- a new object of the class, stored as deep as `store` goes from it
 unfoldable pub make_step : State → Text → List Given → Checked Outcome
 unfolding checked made stored
 make_step m class gs =
@@ -130,6 +133,7 @@ unfoldable pub deleted_numbers : State → ℕ → List ℕ
 unfolding best delete_walk
 deleted_numbers m h = numbers_in any m (best (delete_walk m) (node.Live h) 1)
 
+-- the objects that `delete` reaches have no record any more, and those live are unsaved
 unfoldable pub delete_step : State → Text → Checked Outcome
 unfolding deleted_numbers
 delete_step m name =
@@ -139,6 +143,7 @@ delete_step m name =
 
 -- ---- activate, deactivate and refresh
 
+-- the object has no values in memory
 abbrev pub is_inactive : Live → Bool
 is_inactive o = not o.active
 
@@ -147,6 +152,7 @@ unfoldable pub activated_numbers : State → ℕ → ℕ → List ℕ
 unfolding best activate_walk
 activated_numbers m h depth = numbers_in is_inactive m (best (activate_walk m) (node.Live h) depth)
 
+-- the objects that `activate` reaches have the values of their records
 unfoldable pub activate_step : State → Text → Option ℕ → Checked Outcome
 unfolding activated_numbers all_filled
 activate_step m name depth =
@@ -158,6 +164,7 @@ activate_step m name depth =
 abbrev pub is_active_stored : Live → Bool
 is_active_stored o = o.active && not (is_unsaved o)
 
+-- a live object is there, active, with a number
 abbrev pub is_active_stored_at : Option Live → Bool
 is_active_stored_at o = unwrap_or (option_map is_active_stored o) false
 
@@ -167,6 +174,7 @@ unfolding best deactivate_walk
 deactivated_handles m h depth =
     filter (λ g. is_active_stored_at (at m.live g)) (handles_in (best (deactivate_walk m) (node.Live h) depth))
 
+-- the objects that `deactivate` reaches are inactive
 unfoldable pub deactivate_step : State → Text → ℕ → Checked Outcome
 unfolding deactivated_handles
 deactivate_step m name depth =
@@ -179,6 +187,7 @@ unfoldable pub refreshed_numbers : State → ℕ → ℕ → List ℕ
 unfolding best refresh_walk
 refreshed_numbers m h depth = numbers_in any m (best (refresh_walk m) (node.Live h) depth)
 
+-- the objects that `refresh` reaches have the values of their records again
 unfoldable pub refresh_step : State → Text → ℕ → Checked Outcome
 unfolding refreshed_numbers all_filled
 refresh_step m name depth =
@@ -197,10 +206,12 @@ live_mark m h = option_map (λ o. mark_of h o.number) (at m.live h)
 abbrev pub shown_live : State → Live → Shown
 shown_live m o = if o.active then shown_fields (live_mark m) (fields_of m.session.schema o.class) o.entries else shown.Stub
 
+-- a live object as it is shown
 abbrev pub live_line : State → ℕ → Option ObjectLine
 live_line m h =
     option_map (λ o. record { mark = mark_of h o.number; class = class_name m.session.schema o.class; fields = shown_live m o }) (at m.live h)
 
+-- the live objects that `show` reaches
 unfoldable pub show_step : State → Text → Checked Outcome
 unfolding best show_walk fields_of
 show_step m name =
@@ -219,16 +230,19 @@ unfoldable pub peeked_numbers : Store → ℕ → ℕ → List ℕ
 unfolding best peek_walk
 peeked_numbers s n depth = filter_map (λ e. elim e.0 [ node.Live h ↦ None | node.Number k ↦ Some k ]) (best (peek_walk s) (node.Number n) depth)
 
+-- the records that `peek` reaches on one side
 unfoldable pub peeked : State → Store → ℕ → ℕ → Checked Outcome
 unfolding peeked_numbers stored_line
 peeked m s n depth =
     unless (is_stored s n) word.Live >>
     Ok (m, answer.Peeked (filter_map (stored_line s) (peeked_numbers s n depth)))
 
+-- the records reached from a number
 unfoldable pub peek_number_step : State → ℕ → ℕ → SideText → Checked Outcome
 unfolding peeked
 peek_number_step m n depth side = depth_checked depth >> peeked m (side_of m side) n depth
 
+-- the records reached from a bound name
 unfoldable pub peek_name_step : State → Text → ℕ → SideText → Checked Outcome
 unfolding peeked
 peek_name_step m name depth side =

@@ -13,14 +13,14 @@ mod CatalogTold
 mod Conversions
 mod Decimals
 mod Fitting
-mod Fronts
-mod Inherited
+pub mod Fronts
+pub mod Inherited
 mod Lengths
-mod NewChild
-mod NewClass
-mod PastFields
-mod Rules
-mod SchemaLaws
+pub mod NewChild
+pub mod NewClass
+pub mod PastFields
+pub mod Rules
+pub mod SchemaLaws
 mod Nodes
 mod StateWalks
 mod Told

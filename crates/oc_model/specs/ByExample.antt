@@ -46,6 +46,7 @@ asking o f = filter asks (atoms_of (value_in o.entries f.id f.kind))
 
 -- ---- the query
 
+-- the class of a live object, 0 where there is none
 abbrev pub class_in : State → ℕ → ℕ
 class_in m h = unwrap_or (option_map (λ o. o.class) (at m.live h)) 0
 
@@ -54,6 +55,7 @@ abbrev pub asked : State → (ℕ → Expr) → Text → Atom → Expr
 asked m example name (atom.Ref h) = Inside (name ∷ []) (class_in m h) (example h)
 asked m example name a = Test (name ∷ []) op.Equal a
 
+-- all that the values of an object ask, field by field; nothing where there is no object
 abbrev pub asked_by : State → (ℕ → Expr) → Option Live → List Expr
 asked_by m example None = []
 asked_by m example (Some o) = flat_map (λ f. map (asked m example f.name) (asking o f)) (fields_of m.session.schema o.class)
@@ -83,6 +85,7 @@ abbrev pub asking_count : State → Option Live → ℕ
 asking_count m None = 0
 asking_count m (Some o) = sum_by (λ f. length (asking o f)) (fields_of m.session.schema o.class)
 
+-- how many values of a node's object ask something; none of an object that isn't live
 abbrev pub node_count : State → Node → ℕ
 node_count m (node.Live h) = asking_count m (at m.live h)
 node_count m (node.Number n) = 0
@@ -98,10 +101,12 @@ count_within m (suc k) t = count_at m t + count_within m k (onward m t)
 
 -- ---- refusals
 
+-- not a live object without its values
 abbrev pub is_awake_at : Option Live → Bool
 is_awake_at None = true
 is_awake_at (Some o) = is_awake o
 
+-- not a live object without its values
 abbrev pub is_awake_node : State → Node → Bool
 is_awake_node m (node.Live h) = is_awake_at (at m.live h)
 is_awake_node m (node.Number n) = true
@@ -110,6 +115,7 @@ is_awake_node m (node.Number n) = true
 abbrev pub reachable : State → Node → Table
 reachable m x = best (show_walk m) x 1
 
+-- the table has no node
 abbrev pub is_empty : Table → Bool
 is_empty [] = true
 is_empty (e ∷ t) = false

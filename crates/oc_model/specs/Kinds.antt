@@ -26,6 +26,7 @@ kind_tag (kind.Many b) = base_tag b + 16
 abbrev pub same_kind : Kind → Kind → Bool
 same_kind j k = kind_tag j == kind_tag k
 
+-- an array, not a single value
 abbrev pub is_array : Kind → Bool
 is_array (kind.One b) = false
 is_array (kind.Many b) = true

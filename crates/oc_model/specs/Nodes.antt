@@ -103,6 +103,7 @@ side_next s (node.Number n) = side_named s (at s.records n)
 
 -- ---- a node's class
 
+-- the class of a live object, if it is there
 abbrev pub live_class : Option Live → Option ℕ
 live_class o = option_map (λ p. p.class) o
 
@@ -111,6 +112,7 @@ abbrev pub node_class : State → Node → Option ℕ
 node_class m (node.Live h) = live_class (at m.live h)
 node_class m (node.Number n) = class_of m.session n
 
+-- a live object is there, and has no number
 abbrev pub is_unsaved_at : Option Live → Bool
 is_unsaved_at None = false
 is_unsaved_at (Some o) = is_unsaved o

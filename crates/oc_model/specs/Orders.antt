@@ -24,14 +24,17 @@ abbrev pub truth_of : Atom → Bool
 truth_of (atom.Bool b) = b
 truth_of _ = false
 
+-- the whole number, 0 of anything else
 abbrev pub number_of : Atom → ℤ
 number_of (atom.Int n) = n
 number_of _ = pos 0
 
+-- the text, the empty one of anything else
 abbrev pub text_of : Atom → Text
 text_of (atom.Text (Some t)) = t
 text_of _ = []
 
+-- the object's number, 0 of anything else
 abbrev pub ref_of : Atom → ℕ
 ref_of (atom.Ref n) = n
 ref_of _ = 0

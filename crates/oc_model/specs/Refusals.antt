@@ -13,6 +13,7 @@ abbrev pub ◌>>=◌ : {A B : Type 0} → Checked A → (A → Checked B) → Ch
 (Err w) >>= f = Err w
 
 infixl 10 ◌>>◌
+-- the second, unless the first was refused
 abbrev pub ◌>>◌ : {A B : Type 0} → Checked A → Checked B → Checked B
 (Ok a) >> r = r
 (Err w) >> r = Err w

@@ -12,9 +12,11 @@ abbrev pub same_flag : Bool → Bool → Bool
 same_flag true b = b
 same_flag false b = not b
 
+-- the same field: id, name, kind, and whether it is current and indexed
 abbrev pub same_field : FieldDef → FieldDef → Bool
 same_field f g = f.id == g.id && same f.name g.name && same_kind f.kind g.kind && same_flag f.current g.current && same_flag f.indexed g.indexed
 
+-- the same class: name, parent, and fields in order
 abbrev pub same_class : ClassDef → ClassDef → Bool
 same_class c d = same c.name d.name && c.parent == d.parent && pointwise same_field c.fields d.fields
 

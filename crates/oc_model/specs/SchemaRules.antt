@@ -83,6 +83,7 @@ are_in_order [] = true
 are_in_order (f ∷ []) = true
 are_in_order (f ∷ g ∷ fields) = may_follow f g && are_in_order (g ∷ fields)
 
+-- each class has its fields in order
 abbrev pub has_ordered_fields : Schema → Bool
 has_ordered_fields s = list_all (λ c. are_in_order c.fields) s.classes
 

@@ -9,6 +9,7 @@ pub record Schema : Type 0 where
   pub classes : List ClassDef
   pub next_field : ℕ
 
+-- no classes, and 1 as the next field id
 abbrev pub empty_schema : Schema
 empty_schema = record { classes = []; next_field = 1 }
 
@@ -30,10 +31,12 @@ class_named s name = number_from 1 s.classes name
 abbrev pub current : List FieldDef → List FieldDef
 current fields = filter (λ f. f.current) fields
 
+-- the current fields that a class declares itself
 abbrev pub own_fields : Option ClassDef → List FieldDef
 own_fields None = []
 own_fields (Some c) = current c.fields
 
+-- the parent's id, 0 where there is none
 abbrev pub parent_of : Option ClassDef → ℕ
 parent_of None = 0
 parent_of (Some c) = c.parent
@@ -47,6 +50,7 @@ fields_within (suc fuel) s c = fields_within fuel s (parent_of (class_at s c)) +
 unfoldable pub fields_of : Schema → ℕ → List FieldDef
 fields_of s c = fields_within c s c
 
+-- the one class is the other or below it, where so many steps up may be taken
 abbrev pub below_within : ℕ → Schema → ℕ → ℕ → Bool
 below_within zero s a b = false
 below_within (suc fuel) s a b = a == b || below_within fuel s (parent_of (class_at s a)) b

@@ -9,6 +9,7 @@ use Rattle.oc_model.specs.States.{State, settings_of, default_settings}
 use Rattle.oc_model.specs.Nodes.{nodes, named_in, view_next, refresh_next, memory_next, side_next, node_class, is_unsaved_node}
 use Rattle.oc_model.specs.Walks.{Walk, clamped, at_least_if, plain_walk}
 
+-- what is set for a class, the defaults for an object that is nowhere
 abbrev pub class_settings : State → Option ℕ → ClassSettings
 class_settings m None = default_settings
 class_settings m (Some c) = settings_of m.settings c

@@ -71,6 +71,7 @@ atom_len b (atom.Text None) = 1
 atom_len b (atom.Text (Some t)) = 5 + length t
 atom_len b _ = width_of b
 
+-- the base of a single value's kind or of an array's items
 abbrev pub base_of : Kind → Base
 base_of (kind.One b) = b
 base_of (kind.Many b) = b

@@ -1,6 +1,6 @@
 -- The lines class, make and query.
-use Rattle.std.specs.Prelude.{◌≡◌, refl, codes, ◌++◌, ◌∷◌, replicate}
-use Rattle.oc_machine.specs.Rows.{rows, said}
+use Rattle.std.specs.Prelude.{◌≡◌, refl, codes, ◌++◌, [], ◌∷◌, replicate}
+use Rattle.oc_machine.specs.Rows.{rows, lines, said, then}
 
 -- an empty script
 nothing_said : said (codes "") ≡ codes "ready\nclosed\n"
@@ -12,6 +12,12 @@ pilot : said (codes "class Pilot { name: text, points: i32 }\nmake Pilot { name:
     ≡ codes "ready\nok\nstored ~1 1\n~1 Pilot { name: \"Michael\", points: 100 }\nfound 1\nclosed\n"
 unfolding rows
 pilot = refl
+
+-- it is there in a second run, as it was
+in_a_second_run : then (codes "class Pilot { name: text, points: i32 }" ∷ codes "make Pilot { name: \"Michael\", points: 100 }" ∷ codes "query Pilot" ∷ []) (codes "query Pilot" ∷ [])
+    ≡ lines (codes "ready" ∷ codes "~1 Pilot { name: \"Michael\", points: 100 }" ∷ codes "found 1" ∷ codes "closed" ∷ [])
+unfolding rows
+in_a_second_run = refl
 
 -- defaults and refusals
 refusals : said (codes "class A { n: i32 }\nmake A { }\nmake B { }\nmake A { n: 2147483648 }\nquery A\n")

@@ -26,30 +26,39 @@ use Rattle.oc_machine.specs.Rows.{rows, times}
 
 -- ---- words for rows
 
+-- the reading of a line
 abbrev read : Text → Reading
 read line = reading line
 
+-- a class
 abbrev A : Text
 A = codes "A"
 
+-- another class
 abbrev B : Text
 B = codes "B"
 
+-- a field or a name
 abbrev a : Text
 a = codes "a"
 
+-- another field or name
 abbrev b : Text
 b = codes "b"
 
+-- a field
 abbrev f : Text
 f = codes "f"
 
+-- a field as it is declared
 abbrev decl : Text → Kind → Decl
 decl n k = record { name = n; kind = k }
 
+-- a field and its value
 abbrev given : Text → ValueText → Given
 given n v = record { name = n; value = v }
 
+-- a whole number
 abbrev int : ℕ → Single
 int n = single.Int (pos n)
 
@@ -57,9 +66,11 @@ int n = single.Int (pos n)
 abbrev is_number : Text → ℕ → ExprText
 is_number n k = expr.Compare (n ∷ []) op.Equal (literal.Int (pos k))
 
+-- by the path, ascending
 abbrev crit : List Text → CritText
 crit p = record { path = p; ascending = true }
 
+-- by the path, descending
 abbrev crit_desc : List Text → CritText
 crit_desc p = record { path = p; ascending = false }
 

@@ -116,6 +116,39 @@ wide_kinds : run (
 unfolding rows
 wide_kinds = refl
 
+-- The greatest u64 doesn't fit i64, and is the text of its digits.
+two_kinds_more : run (
+    codes "class U { a: u64, b: i128 }" ∷
+    codes "make U { a: 18446744073709551615, b: -170141183460469231731687303715884105728 }" ∷
+    codes "query U" ∷
+    codes "make U { a: -1 }" ∷
+    codes "make U { b: 170141183460469231731687303715884105728 }" ∷
+    codes "class U { a: i64, b: i128 }" ∷
+    codes "convert U.a from u64" ∷
+    codes "class U { a: text, b: i128 }" ∷
+    codes "convert U.a from u64" ∷
+    codes "query U where a = \"18446744073709551615\"" ∷
+    []
+    ) ≡ lines (
+    codes "ready" ∷
+    codes "ok" ∷
+    codes "stored ~1 1" ∷
+    codes "~1 U { a: 18446744073709551615, b: -170141183460469231731687303715884105728 }" ∷
+    codes "found 1" ∷
+    codes "error kind" ∷
+    codes "error syntax" ∷
+    codes "ok" ∷
+    codes "converted 0" ∷
+    codes "ok" ∷
+    codes "converted 1" ∷
+    codes "~1 U { a: \"18446744073709551615\", b: -170141183460469231731687303715884105728 }" ∷
+    codes "found 1" ∷
+    codes "closed" ∷
+    []
+    )
+unfolding rows
+two_kinds_more = refl
+
 -- The parent is looked up first. A new class is no parent of its own.
 parents : run (
     codes "class A : A { }" ∷

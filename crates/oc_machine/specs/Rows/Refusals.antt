@@ -11,6 +11,7 @@ use Rattle.oc_machine.specs.Rows.{rows, times}
 
 -- ---- words for rows
 
+-- the line is refused as it spells no command
 abbrev is_syntax : Reading → Bool
 is_syntax (refused Syntax) = true
 is_syntax _ = false
@@ -269,10 +270,12 @@ reserved = refl
 
 -- ---- parentheses
 
+-- the line is refused for its parentheses
 abbrev is_deep_line : Reading → Bool
 is_deep_line (refused Deep) = true
 is_deep_line _ = false
 
+-- each of the lines is refused for its parentheses
 abbrev are_deep : List Text → Bool
 are_deep lines = list_all (λ line. is_deep_line (reading line)) lines
 
@@ -301,6 +304,7 @@ not_deep = refl
 
 -- ---- length
 
+-- the line is refused for its length
 abbrev is_long : Reading → Bool
 is_long (refused Long) = true
 is_long _ = false

@@ -14,6 +14,7 @@ last_number = refl
 
 -- ---- lines without room
 
+-- the lines of the run
 abbrev script : List Text
 script =
     codes "class A { }" ∷ codes "" ∷ codes "# a comment" ∷ codes "make A { }" ∷ codes "make Z { }" ∷ codes "commit" ∷ codes "make A { }" ∷ codes "query A" ∷ []
@@ -67,3 +68,9 @@ three = refl
 sixty_four : summary all_built (empty_store 1) (generated 64) [] ≡ lines (codes "ready" ∷ codes "found 6" ∷ codes "found 1" ∷ codes "found 5" ∷ codes "committed 1" ∷ codes "closed" ∷ [])
 unfolding rows generated
 sixty_four = refl
+
+-- with a commit on the way
+a_hundred : summary all_built (empty_store 1) (generated 100) []
+    ≡ lines (codes "ready" ∷ codes "committed 1" ∷ codes "found 10" ∷ codes "found 1" ∷ codes "found 5" ∷ codes "committed 2" ∷ codes "closed" ∷ [])
+unfolding rows generated
+a_hundred = refl

@@ -14,6 +14,7 @@ use Rattle.oc_machine.specs.Rows.{rows, lines}
 abbrev behind : List Text → State
 behind script = state_after all_built [] 1 (start (empty_store 1)) script
 
+-- the cost of a line, nothing where it spells no command
 abbrev cost_read : State → Reading → ℕ
 cost_read m (reads c) = cost m c
 cost_read m r = 0
@@ -94,12 +95,15 @@ short_path_cost = refl
 
 -- ---- what lines ask
 
+-- the form in bytes
 abbrev plain : Form
 plain = record { unit = 1; wide = false }
 
+-- the form in blocks of this size
 abbrev in_blocks : ℕ → Form
 in_blocks b = record { unit = b; wide = true }
 
+-- what a line asks, nothing where it spells no command
 abbrev asked_read : Form → Since → State → Reading → ℕ
 asked_read f s m (reads c) = asked f s m c
 asked_read f s m r = 0

@@ -41,15 +41,19 @@ store classes records = record { schema = record { classes = classes; next_field
 
 -- ---- values
 
+-- a whole number
 abbrev pub whole : ℤ → Value
 whole n = value.One (atom.Int n)
 
+-- a truth value
 abbrev pub truth : Bool → Value
 truth b = value.One (atom.Bool b)
 
+-- a text
 abbrev pub text : Text → Value
 text t = value.One (atom.Text (Some t))
 
+-- a text that is null
 abbrev pub no_text : Value
 no_text = value.One (atom.Text None)
 
@@ -57,8 +61,10 @@ no_text = value.One (atom.Text None)
 abbrev pub ref : ℕ → Value
 ref n = value.One (atom.Ref n)
 
+-- an array of these items
 abbrev pub array : List Atom → Value
 array items = value.Many (Some items)
 
+-- an array that is null
 abbrev pub no_array : Value
 no_array = value.Many None

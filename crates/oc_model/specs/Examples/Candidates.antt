@@ -17,12 +17,15 @@ use Rattle.oc_model.specs.Examples.Building.{field, class, object, store, whole,
 
 -- ---- a store: a and r have an index, b and the array have none
 
+-- a field with an index
 abbrev indexed : ℕ → Text → Kind → FieldDef
 indexed id name k = record (field id name k) { indexed = true }
 
+-- the fields of the class
 abbrev own : List FieldDef
 own = indexed 1 (codes "a") (kind.One base.I32) ∷ field 2 (codes "b") (kind.One base.I32) ∷ indexed 3 (codes "r") (kind.One base.Ref) ∷ []
 
+-- the further field of the class below
 abbrev more : List FieldDef
 more = field 4 (codes "c") (kind.One base.I32) ∷ []
 
@@ -38,12 +41,15 @@ below a = object 2 own (whole (pos a) ∷ [])
 abbrev pub items : Store
 items = store (class 0 (codes "T") own ∷ class 1 (codes "U") more ∷ []) (item 1 7 0 ∷ item 2 7 1 ∷ item 2 8 1 ∷ item 3 8 99 ∷ below 2 ∷ [])
 
+-- a whole number
 abbrev number : ℕ → Atom
 number n = atom.Int (pos n)
 
+-- the indexed field has this number
 abbrev is_a : ℕ → Expr
 is_a n = Test (codes "a" ∷ []) op.Equal (number n)
 
+-- the field without an index has this number
 abbrev is_b : ℕ → Expr
 is_b n = Test (codes "b" ∷ []) op.Equal (number n)
 

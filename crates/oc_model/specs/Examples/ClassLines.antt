@@ -126,9 +126,11 @@ again = refl
 abbrev fields : ℕ → ℕ → List Decl
 fields first n = map (λ k. record { name = k ∷ []; kind = i8 }) (range_with_len first n)
 
+-- the line that declares the class with these fields
 abbrev class_of : List Decl → Line
 class_of ds s = declared s (codes "A") None ds
 
+-- the line that declares a class with these fields below another
 abbrev class_under : ℕ → List Decl → Line
 class_under n ds s = declared s (codes "B") (Some (n ∷ [])) ds
 

@@ -13,12 +13,15 @@ use Rattle.oc_model.specs.Conversions.{converted, some_text}
 abbrev as_each : Base → Atom → List (Option Value)
 as_each from a = map (λ to. converted (One from) (One to) (value.One a)) (Bool ∷ I8 ∷ I16 ∷ I32 ∷ I64 ∷ U64 ∷ I128 ∷ Text ∷ Ref ∷ [])
 
+-- there is a conversion, to this single value
 abbrev one : Atom → Option Value
 one a = Some (value.One a)
 
+-- there is a conversion, to this whole number
 abbrev whole : ℤ → Option Value
 whole n = one (atom.Int n)
 
+-- there is a conversion, to this text
 abbrev said : List ℕ → Option Value
 said t = one (some_text t)
 

@@ -18,15 +18,19 @@ use Rattle.oc_model.specs.Examples.Building.{field, class, object, store, whole,
 
 -- ---- words for queries
 
+-- by the path, ascending
 abbrev asc : List Text → Criterion
 asc path = record { path = path; ascending = true }
 
+-- by the path, descending
 abbrev desc : List Text → Criterion
 desc path = record { path = path; ascending = false }
 
+-- a whole number
 abbrev number : ℕ → Atom
 number n = atom.Int (pos n)
 
+-- a text
 abbrev literal : Text → Atom
 literal t = atom.Text (Some t)
 
@@ -36,12 +40,15 @@ at_field name = name ∷ []
 
 -- ---- two numbers, an order by both
 
+-- two numbers
 abbrev pair_fields : List FieldDef
 pair_fields = field 1 (codes "a") (kind.One base.I32) ∷ field 2 (codes "b") (kind.One base.I32) ∷ []
 
+-- an object of two numbers
 abbrev pair : ℕ → ℕ → Rec
 pair a b = object 1 pair_fields (whole (pos a) ∷ whole (pos b) ∷ [])
 
+-- four objects of two numbers
 abbrev pairs : Store
 pairs = store (class 0 (codes "T") pair_fields ∷ []) (pair 1 3 ∷ pair 2 2 ∷ pair 1 2 ∷ pair 2 3 ∷ [])
 
@@ -92,9 +99,11 @@ empty_or = refl
 
 -- ---- texts, one of them null
 
+-- a text and a number
 abbrev person_fields : List FieldDef
 person_fields = field 1 (codes "name") (kind.One base.Text) ∷ field 2 (codes "n") (kind.One base.I32) ∷ []
 
+-- two objects, the second with a null text
 abbrev persons : Store
 persons = store (class 0 (codes "P") person_fields ∷ []) (object 1 person_fields (text (codes "Barrichello") ∷ whole (pos 1) ∷ []) ∷ object 1 person_fields (no_text ∷ whole (pos 2) ∷ []) ∷ [])
 
@@ -172,9 +181,11 @@ by_name_down = refl
 
 -- ---- arrays
 
+-- an array of numbers and one of texts
 abbrev list_fields : List FieldDef
 list_fields = field 1 (codes "xs") (kind.Many base.I32) ∷ field 2 (codes "ts") (kind.Many base.Text) ∷ []
 
+-- three objects, with arrays that are filled, empty and null
 abbrev lists : Store
 lists = store (class 0 (codes "R") list_fields ∷ []) (object 1 list_fields (array (number 1 ∷ number 2 ∷ number 3 ∷ []) ∷ array (atom.Text None ∷ literal (codes "a") ∷ []) ∷ []) ∷ object 1 list_fields (array [] ∷ no_array ∷ []) ∷ object 1 list_fields (no_array ∷ no_array ∷ []) ∷ [])
 
@@ -209,6 +220,7 @@ first_element_last = refl
 
 -- ---- references
 
+-- the fields of a pilot
 abbrev pilot_fields : List FieldDef
 pilot_fields = field 1 (codes "name") (kind.One base.Text) ∷ field 2 (codes "points") (kind.One base.I32) ∷ []
 
@@ -216,6 +228,7 @@ pilot_fields = field 1 (codes "name") (kind.One base.Text) ∷ field 2 (codes "p
 abbrev driver_fields : List FieldDef
 driver_fields = field 3 (codes "car") (kind.One base.Ref) ∷ []
 
+-- the fields of a car
 abbrev car_fields : List FieldDef
 car_fields = field 4 (codes "model") (kind.One base.Text) ∷ field 5 (codes "pilot") (kind.One base.Ref) ∷ field 6 (codes "others") (kind.Many base.Ref) ∷ []
 
@@ -234,6 +247,7 @@ cars =
     ∷ []
     )
 
+-- the path to the name of a car's pilot
 abbrev pilot_name : List Text
 pilot_name = codes "pilot" ∷ codes "name" ∷ []
 
@@ -371,9 +385,11 @@ accents = refl
 abbrev valued : Kind → List FieldDef
 valued k = field 1 (codes "v") k ∷ []
 
+-- a single reference
 abbrev holder : List FieldDef
 holder = field 2 (codes "r") (kind.One base.Ref) ∷ []
 
+-- objects of unlike classes, and one that refers to each
 abbrev mixed : Store
 mixed =
     store

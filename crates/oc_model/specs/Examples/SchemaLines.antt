@@ -32,21 +32,27 @@ left_of s lines = fold (λ (r : Checked Schema) (l : Line). r >>= l) (Ok s) line
 abbrev pub left_by : List Line → Checked Schema
 left_by lines = left_of empty_schema lines
 
+-- a kind of single values
 abbrev pub i8 : Kind
 i8 = kind.One base.I8
 
+-- a kind of single values
 abbrev pub i16 : Kind
 i16 = kind.One base.I16
 
+-- a kind of single values
 abbrev pub i32 : Kind
 i32 = kind.One base.I32
 
+-- a kind of single values
 abbrev pub text : Kind
 text = kind.One base.Text
 
+-- a kind of arrays
 abbrev pub i8s : Kind
 i8s = kind.Many base.I8
 
+-- a field as a class line declares it
 abbrev pub decl : String → Kind → Decl
 decl name k = record { name = codes name; kind = k }
 
@@ -58,15 +64,19 @@ class name ds s = declared s (codes name) None ds
 abbrev pub class_below : String → String → List Decl → Line
 class_below name parent ds s = declared s (codes name) (Some (codes parent)) ds
 
+-- the line that gives a class another name
 abbrev pub rename_class : String → String → Line
 rename_class name to s = class_renamed s (codes name) (codes to)
 
+-- the line that gives a field another name
 abbrev pub rename : String → String → String → Line
 rename c name to s = field_renamed s (codes c) (codes name) (codes to)
 
+-- the line that indexes a field
 abbrev pub index : String → String → Line
 index c name s = index_set s (codes c) (codes name) true
 
+-- the line that takes a field's index away
 abbrev pub unindex : String → String → Line
 unindex c name s = index_set s (codes c) (codes name) false
 
@@ -76,12 +86,15 @@ converted lines c name from = left_by lines >>= λ s. conversion_of s (codes c) 
 
 -- ---- what they leave
 
+-- a current field without an index
 abbrev pub field : ℕ → String → Kind → FieldDef
 field id name k = record { id = id; name = codes name; kind = k; current = true; indexed = false }
 
+-- a current field with an index
 abbrev pub indexed : ℕ → String → Kind → FieldDef
 indexed id name k = record { id = id; name = codes name; kind = k; current = true; indexed = true }
 
+-- a field that the class has no more
 abbrev pub past : ℕ → String → Kind → FieldDef
 past id name k = record { id = id; name = codes name; kind = k; current = false; indexed = false }
 

@@ -22,6 +22,7 @@ past = record (field 1 (codes "t") (kind.One base.Text)) { current = false }
 more : FieldDef
 more = field 3 (codes "m") (kind.One base.I32)
 
+-- a class and one below it
 unfoldable two : Schema
 unfolding number past more
 two = record { classes = class 0 (codes "A") (number ∷ past ∷ []) ∷ class 1 (codes "B") (more ∷ []) ∷ []; next_field = 4 }

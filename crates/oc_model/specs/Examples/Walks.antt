@@ -13,10 +13,12 @@ use Rattle.oc_model.specs.Walks.{Walk, Table, Arrives, begins, goes_on, best, cl
 abbrev Names : Type 0
 Names = Map (List ℕ)
 
+-- the nodes that a node names
 abbrev named : Names → Node → List Node
 named g (Live h) = []
 named g (Number n) = map (λ m. Number m) (unwrap_or (at g n) [])
 
+-- all nodes
 abbrev objects : Names → List Node
 objects g = map (λ n. Number n) (keys g)
 
@@ -28,9 +30,11 @@ over g = plain_walk (objects g) (named g)
 abbrev numbers : List (ℕ × ℕ) → Table
 numbers es = map (λ e. (Number e.0, e.1)) es
 
+-- four objects, each naming the next
 abbrev chain : Names
 chain = (1, 2 ∷ []) ∷ (2, 3 ∷ []) ∷ (3, 4 ∷ []) ∷ (4, []) ∷ []
 
+-- three objects, each naming the next, and the last the first
 abbrev circle : Names
 circle = (1, 2 ∷ []) ∷ (2, 3 ∷ []) ∷ (3, 1 ∷ []) ∷ []
 
