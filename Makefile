@@ -1,10 +1,11 @@
 # make ocdb   builds the program where it isn't built, and says where it lies
 # make demo   runs each script of examples/ on a container of its own
+# make definitions   writes docs/DEFINITIONS.md anew from the definitions and their sentences
 
 program := crates/ocdb/out/ocdb
 sources := $(shell find crates/*/src crates/*/specs crates/*/proofs -name '*.rt' -o -name '*.antt')
 
-.PHONY: ocdb demo
+.PHONY: ocdb demo definitions
 
 ocdb: $(program)
 	@echo "The program is $(program)"
@@ -29,3 +30,6 @@ demo: ocdb
 	    status=0; $(program) "$$room/$$name.oc" <"$$script" || status=$$?; \
 	    printf '\n---- exit code %s\n' "$$status"; \
 	done
+
+definitions:
+	@sh checks/lib/definitions.sh >docs/DEFINITIONS.new && mv docs/DEFINITIONS.new docs/DEFINITIONS.md || { rm -f docs/DEFINITIONS.new; exit 1; }
