@@ -1,14 +1,11 @@
 -- Lists and sets of names and of numbers, from behind.
-use Rattle.std.proofs.Common.{◌≡◌, ℕ, zero, suc, ◌+◌, ◌-◌, ◌<◌, ◌≤◌, ⊎_elim, Bool, true, false, not, ◌||◌, cond, nat_eq, List, [], ◌∷◌, length, map, drop, get_or, slice_index, Option, Some, is_some, refl, sym, ap, subst, ◌∙◌, arith, nat_cmp}
+use Rattle.std.proofs.Common.{◌≡◌, ℕ, zero, suc, ◌+◌, ◌-◌, ◌<◌, ◌≤◌, ⊎_elim, Bool, true, false, not, ◌||◌, cond, nat_eq, List, [], ◌∷◌, length, map, drop, get_or, slice_index, Some, is_some, refl, sym, ap, subst, ◌∙◌, arith, nat_cmp}
 use Rattle.std.specs.List.{list_any}
 use Rattle.std.specs.Ordering.{is_eq}
 use Rattle.std.specs.Cmp.{eq_by_cmp_equiv}
 use Rattle.std.specs.Cmp.Lexicographic.{slice_cmp, bytes_decides, nat_list_cmp_total, nat_list_eq_equiv}
-use Rattle.std.specs.Global.{Vec}
-use Rattle.std.specs.BTreeMap.{BTreeMap}
-use Rattle.std.specs.BTreeMap as tree
 use Rattle.std.specs.BTreeSet.{BTreeSet, contains_by, UpdatesBy}
-use Rattle.std.specs.Map.{lookup, IsKeyTest, AreApart, KeepsOthers}
+use Rattle.std.specs.Map.{IsKeyTest, AreApart}
 use Rattle.std.specs.Set.{KeepsOthers as KeepsOtherKeys}
 use Rattle.std.proofs.lemmas.Bool.{cases_Bool, cond-true, cond-false, and_right}
 use Rattle.std.proofs.lemmas.Bool.Decides.{nat_tests}
@@ -18,7 +15,8 @@ use Rattle.oc_model.specs.Maps.{Text, same, is_in, are_distinct}
 use Rattle.oc_model.specs.Schemas.{number_from}
 use Rattle.oc_model.specs.SchemaRules.{are_apart}
 use Rattle.oc_model.specs.declared.schema.ClassDef.{ClassDef}
-use Rattle.oc_schema.specs.Drafts.{number_in}
+use Rattle.oc_shared.specs.Tables.{Rows, value_at, with_value}
+use Rattle.oc_schema.proofs.Names.{value_with}
 use denote.Ref.{Bor}
 
 -- ---- lists from behind
@@ -68,10 +66,6 @@ apart bs cs ks n y = nat_list_eq_equiv.symm cs ks ∙ sym (nat_list_eq_equiv.con
 apart_in_order : (bs cs ks : Text) → same bs cs ≡ false → is_eq (slice_cmp nat_cmp bs ks) ≡ true → is_eq (slice_cmp nat_cmp cs ks) ≡ false
 apart_in_order bs cs ks n y = is_eq-slice_cmp cs ks ∙ apart bs cs ks n (sym (is_eq-slice_cmp bs ks) ∙ y)
 
-other_entries : {K X : Type 0} (eq : K → K → Bool) (test : K → Bool) (old new : List (K × X)) → KeepsOthers eq test old new → (other : K → Bool) → IsKeyTest eq other → AreApart test other → lookup other new ≡ lookup other old
-unfolding KeepsOthers
-other_entries eq test old new h = h
-
 other_keys : {K : Type 0} (eq : K → K → Bool) (test : K → Bool) (old new : List K) → KeepsOtherKeys eq test old new → (other : K → Bool) → IsKeyTest eq other → AreApart test other → list_any other new ≡ list_any other old
 unfolding KeepsOtherKeys
 other_keys eq test old new h = h
@@ -92,11 +86,6 @@ name_in m n k h q =
     (λ cs e. other_keys _ _ _ _ h.3 _ (λ x y. (eq_by_cmp_equiv nat_list_cmp_total).congr cs x.now y.now) (λ x. apart_in_order k.now cs x.now e)) q
     ∙ or_cond (same k.now q) (contains_by (λ y. slice_cmp nat_cmp q y.now) m)
     ∙ ap (λ b. b || contains_by (λ y. slice_cmp nat_cmp q y.now) m) (nat_list_eq_equiv.symm k.now q)
-
--- a table of names after a name is put in
-pub table_after : (m n : BTreeMap (Vec ℕ) ℕ) (k : Vec ℕ) (w : Option ℕ) → tree.UpdatesBy (λ x y. slice_cmp nat_cmp x.items y.items) (λ y. slice_cmp nat_cmp k.items y.items) m n w
-    → (q : Text) → number_in n q ≡ cond (same k.items q) w (number_in m q)
-table_after m n k w h = by_bytes (number_in m) (number_in n) k.items w h.1 (λ cs e. other_entries _ _ _ _ h.3 _ (λ x y. (eq_by_cmp_equiv nat_list_cmp_total).congr cs x.items y.items) (λ x. apart_in_order k.items cs x.items e))
 
 -- ---- classes by name
 
@@ -120,12 +109,11 @@ class_once cs i n c pos le e free h =
     let others = sym (has_number n (drop i cs) c.name) ∙ free in
     rw (turn cs i c pos le e, others) h
 
-pub table_turn : (m n : BTreeMap (Vec ℕ) ℕ) (k : Vec ℕ) (cs : List ClassDef) (i : ℕ) (c : ClassDef) → 0 < i → i ≤ length cs → c ≡ get_or cs (i - 1) c → k.items ≡ c.name
-    → tree.UpdatesBy (λ x y. slice_cmp nat_cmp x.items y.items) (λ y. slice_cmp nat_cmp k.items y.items) m n (Some (i - 1 + 1))
-    → ((q : Text) → number_in m q ≡ number_from (i + 1) (drop i cs) q) → (q : Text) → number_in n q ≡ number_from (i - 1 + 1) (drop (i - 1) cs) q
-table_turn m n k cs i c pos le e named u h q =
+pub table_turn : (m : Rows ℕ) (cs : List ClassDef) (i : ℕ) (c : ClassDef) → 0 < i → i ≤ length cs → c ≡ get_or cs (i - 1) c
+    → ((q : Text) → value_at m q ≡ number_from (i + 1) (drop i cs) q) → (q : Text) → value_at (with_value m c.name (i - 1 + 1)) q ≡ number_from (i - 1 + 1) (drop (i - 1) cs) q
+table_turn m cs i c pos le e h q =
     let s : i - 1 + 1 ≡ i = omega arith in
-    table_after m n k (Some (i - 1 + 1)) u q
-    ∙ (λ j. cond (same (named j) q) (Some (i - 1 + 1)) (h q j))
+    value_with m c.name q (i - 1 + 1)
+    ∙ ap (cond (same c.name q) (Some (i - 1 + 1))) (h q)
     ∙ ap (λ a. cond (same c.name q) (Some (i - 1 + 1)) (number_from (a + 1) (drop i cs) q)) (sym s)
     ∙ ap (λ ds. number_from (i - 1 + 1) ds q) (sym (turn cs i c pos le e))

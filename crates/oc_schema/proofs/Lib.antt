@@ -1,4 +1,5 @@
 mod FromBehind
+pub mod Names
 pub mod Sharing
 pub mod Ancestry
 pub mod Parting

@@ -1,5 +1,5 @@
 -- The rules of a schema, parted into those of each class, those of its line, and those of all.
-use Rattle.std.proofs.Common.{◌≡◌, refl, sym, ap, ◌∙◌, ℕ, zero, suc, ◌+◌, ◌<◌, Bool, true, false, not, ◌≤◌, ◌&&◌, ◌||◌, nat_lt, nat_le, List, [], ◌∷◌, length, map, flat_map, slice_get, drop, arith, is_some, IsTrue, ◌↔◌, true≢false, Some, cond, Option, None, IfSome}
+use Rattle.std.proofs.Common.{◌≡◌, refl, sym, ap, ◌∙◌, ℕ, zero, suc, ◌+◌, ◌<◌, Bool, true, false, not, ◌≤◌, ◌&&◌, ◌||◌, nat_lt, nat_le, List, [], ◌∷◌, length, map, flat_map, slice_get, drop, arith, is_some, IsTrue, ◌↔◌, true≢false, Some, cond, Option, None, IfSome, ◌++◌, length-append}
 use denote.Ref.{Bor}
 use Rattle.std.proofs.lemmas.Bool.Decides.{nat_tests}
 use Rattle.std.proofs.lemmas.List.{drop_more}
@@ -235,6 +235,24 @@ few_classes s h =
     let classes = and_parts (has_few_classes s) (has_few_ancestors s) fields.0 in
     let few = classes.0 in
     grind (arith, nat_tests, few)
+
+-- a class more finds a number
+pub few_last : (cs : List ClassDef) (c : ClassDef) (next : ℕ) → keeps_rules (schema_of (cs ++ c ∷ []) next) ≡ true → length cs + 1 ≤ 65535
+few_last cs c next h = let few = few_classes (schema_of (cs ++ c ∷ []) next) h in omega (arith, few, length-append cs (c ∷ []))
+
+-- no two classes have one name
+pub distinct_classes : (s : Schema) → keeps_rules s ≡ true → are_distinct (map (λ c. c.name) s.classes) ≡ true
+unfolding keeps_rules
+distinct_classes s h =
+    let limits = and_parts _ (is_within_limits s) h in
+    let arrays = and_parts _ (has_no_array_index s) limits.0 in
+    let past = and_parts _ (has_no_past_index s) arrays.0 in
+    let order = and_parts _ (has_ordered_fields s) past.0 in
+    let drawn = and_parts _ (has_drawn_ids s) order.0 in
+    let ids = and_parts _ (has_distinct_ids s) drawn.0 in
+    let field_names = and_parts _ (has_distinct_names s) ids.0 in
+    let parents = and_parts _ (has_earlier_parents s) field_names.0 in
+    (and_parts (has_names s) (has_distinct_classes s) parents.0).1
 
 -- a class that is there has a number from 1 on
 pub class_there : (s : Schema) (c : ℕ) → is_some (class_at s c) ≡ true → 1 ≤ c

@@ -1,20 +1,20 @@
--- Classes that are shared.
-use Rattle.std.proofs.Common.{◌≡◌, ℕ, zero, suc, ◌+◌, List, map, slice_get, Some, ◌<◌, length, get_or, refl, sym, ap, ◌∙◌, arith}
-use Rattle.std.specs.Option.{option_map}
-use Rattle.std.proofs.lemmas.Option.{slice_get-map, slice_get_read}
-use Rattle.std.proofs.lemmas.List.{get_or-map}
+-- Classes by their numbers and by their places.
+use Rattle.std.proofs.Common.{◌≡◌, ℕ, zero, suc, ◌-◌, ◌≤◌, List, slice_get, Some, None, length, get_or, sym, ap, arith, [], ◌∷◌}
+use Rattle.std.proofs.lemmas.Option.{get_or_from_slice_get}
 use Rattle.oc_model.specs.declared.schema.ClassDef.{ClassDef}
-use Rattle.oc_model.specs.Schemas.{class_at}
-use Rattle.oc_schema.specs.Drafts.{schema_of}
+use Rattle.oc_model.specs.Schemas.{Schema, class_at}
 
 -- the class of a number is what stands in its place
-pub class_found : {A : Type 0} (f : A → ClassDef) (cs : List A) (next number place : ℕ) (a : A) → number ≡ place + 1 → place < length cs → a ≡ get_or cs place a
-    → Some (f a) ≡ class_at (schema_of (map f cs) next) number
-class_found f cs next zero place a e lt h = absurd (omega arith)
-class_found f cs next (suc n) place a e lt h =
-    let same : n ≡ place = omega arith in
-    sym (slice_get-map f cs n ∙ ap (λ i. option_map f (slice_get cs i)) same ∙ ap (option_map f) (slice_get_read cs (length cs) place a refl lt h))
+pub class_found : (s : Schema) (n : ℕ) → 1 ≤ n → slice_get s.classes (n - 1) ≡ class_at s n
+class_found s zero le = absurd (omega arith)
+class_found s (suc n) le = let e : suc n - 1 ≡ n = omega arith in ap (slice_get s.classes) e
 
 -- the class in a place is what stands there
-pub class_placed : {A : Type 0} (f : A → ClassDef) (cs : List A) (place : ℕ) (a : A) → place < length cs → a ≡ get_or cs place a → f a ≡ get_or (map f cs) place (f a)
-class_placed f cs place a lt h = ap f h ∙ sym (get_or-map f cs place a (f a) lt)
+pub class_placed : (cs : List ClassDef) (place : ℕ) (c : ClassDef) → slice_get cs place ≡ Some c → c ≡ get_or cs place c
+class_placed cs place c e = sym (get_or_from_slice_get cs place c c e)
+
+-- in each place one stands
+pub class_missing : (cs : List ClassDef) (place : ℕ) → slice_get cs place ≡ None → length cs ≤ place
+class_missing [] place e = omega arith
+class_missing (c ∷ cs) zero e = absurd (cc)
+class_missing (c ∷ cs) (suc i) e = let r = class_missing cs i e in omega (arith, r)

@@ -1,13 +1,10 @@
 -- A schema from its parts, what is asked of each class with what is above it, and the table of the classes' names.
-use Rattle.std.specs.Prelude.{◌≡◌, ℕ, Bool, true, ◌&&◌, nat_le, List, length, map, flat_map, Option, is_some}
-use Rattle.std.specs.Ordering.{nat_cmp}
+use Rattle.std.specs.Prelude.{◌≡◌, ℕ, Bool, true, ◌&&◌, nat_le, List, length, map, flat_map, Some, None, is_some, if◌then◌else◌}
 use Rattle.std.specs.List.{list_all, enumerate_from}
-use Rattle.std.specs.BTreeMap.{BTreeMap, get_by}
-use Rattle.std.specs.Cmp.Lexicographic.{slice_cmp}
-use Rattle.std.specs.Global.{Vec}
+use Rattle.oc_shared.specs.Tables.{Rows, value_at}
 use Rattle.oc_model.specs.declared.value.Rec.{Rec}
 use Rattle.oc_model.specs.declared.schema.ClassDef.{ClassDef}
-use Rattle.oc_model.specs.Maps.{Text, are_distinct}
+use Rattle.oc_model.specs.Maps.{Text, same, are_distinct}
 use Rattle.oc_model.specs.Schemas.{Schema, class_at, number_from, fields_of}
 use Rattle.oc_model.specs.SchemaRules.{numbered, ancestors, are_apart, keeps_rules}
 use Rattle.oc_model.specs.Spelling.{entry_fits}
@@ -31,16 +28,16 @@ line_keeps s c = nat_le (length (ancestors s c)) 32 && nat_le (length (fields_of
 abbrev pub lines_keep : Schema → Bool
 lines_keep s = list_all (λ e. line_keeps s e.0) (numbered s)
 
--- the number that the table has for a name
-abbrev pub number_in : BTreeMap (Vec ℕ) ℕ → Text → Option ℕ
-number_in numbers name = get_by (λ k. slice_cmp nat_cmp name k.items) numbers
-
 -- the table has the number of each of the classes by its name
-abbrev pub IsTable : BTreeMap (Vec ℕ) ℕ → List ClassDef → Type 0
-IsTable numbers classes = (name : Text) → number_in numbers name ≡ number_from 1 classes name
+abbrev pub IsTable : Rows ℕ → List ClassDef → Type 0
+IsTable numbers classes = (name : Text) → value_at numbers name ≡ number_from 1 classes name
+
+-- the new table has the number at one name instead of at another
+abbrev pub IsRenamed : Rows ℕ → ℕ → Text → Text → Rows ℕ → Type 0
+IsRenamed old number from to new = (name : Text) → value_at new name ≡ (if same to name then Some number else if same from name then None else value_at old name)
 
 -- the schema keeps its rules, and the table is that of its classes
-pub record IsKept (s : Schema) (numbers : BTreeMap (Vec ℕ) ℕ) : Type 0 where
+pub record IsKept (s : Schema) (numbers : Rows ℕ) : Type 0 where
   pub rules : keeps_rules s ≡ true
   pub table : IsTable numbers s.classes
 

@@ -13,10 +13,9 @@ use crate::fields::{current_named, has_field_of, push_current};
 use crate::schema::Classes;
 use oc_model::schema::{ClassDef, FieldDef};
 use oc_model::value::Entry;
+use oc_shared::{Sequence, Table};
 use std::alloc::{AllocError, Global};
-use std::collections::BTreeMap;
 use std::marker::Model;
-use std::rc::Rc;
 
 /// The most ancestors of a class.
 const ANCESTOR_LIMIT: usize = 32;
@@ -27,33 +26,28 @@ const FIELD_LIMIT: usize = 255;
 /// Classes and the id that the next new field gets, whether they keep the rules or not.
 #[derive(Drop)]
 pub struct Draft {
-    classes: Vec<Rc<ClassDef>>,
+    classes: Sequence<ClassDef>,
     next_field: u32,
 }
 
 impl Model for Draft {
-    ghost use Rattle.std.specs.Prelude.{map};
     ghost use Rattle.oc_model.specs.Schemas.{Schema};
 
     ghost Value = { Schema };
 
     ghost use Rattle.oc_schema.specs.Drafts.{schema_of};
 
-    ghost view = { λ d. schema_of (map (λ c. c.value) d.classes.items) d.next_field };
+    ghost view = { λ d. schema_of d.classes d.next_field };
 }
 
 impl Draft {
     /// These classes, class 1 first.
-    pub fn share(alloc: Global, mut classes: Classes, next_field: u32) -> Result<Draft, AllocError>
+    pub fn of(alloc: Global, classes: Classes, next_field: u32) -> Result<Draft, AllocError>
         ensures { IfOk result (λ d. d ≡ schema_of classes next_field) }
     {
-        let mut shared = Vec::new(alloc);
-        while let Some(class) = classes.pop() {
-            shared.push(Rc::new(alloc, class)?)?;
-        }
-        shared.reverse();
+        let classes = Sequence::of(alloc, classes)?;
         Ok(Draft {
-            classes: shared,
+            classes,
             next_field,
         })
     }
@@ -67,8 +61,7 @@ impl Draft {
     ) -> Result<Draft, AllocError>
         ensures { IfOk result (λ d. d ≡ schema_of (self.now.classes ++ class ∷ []) next_field) }
     {
-        let mut classes = self.shared(alloc)?;
-        classes.push(Rc::new(alloc, class)?)?;
+        let classes = self.classes.with_last(alloc, class)?;
         Ok(Draft {
             classes,
             next_field,
@@ -87,30 +80,19 @@ impl Draft {
         requires there { number ≤ length self.now.classes }
         ensures { IfOk result (λ d. d ≡ schema_of (slice_set self.now.classes (number - 1) class) next_field) }
     {
-        let mut classes = self.shared(alloc)?;
-        classes[number as usize - 1] = Rc::new(alloc, class)?;
+        let classes = self.classes.with_at(alloc, number as usize - 1, class)?;
         Ok(Draft {
             classes,
             next_field,
         })
     }
 
-    fn shared(&self, alloc: Global) -> Result<Vec<Rc<ClassDef>>, AllocError>
-        ensures { IfOk result (λ v. map (λ c. c.value) v.items ≡ self.now.classes) }
-    {
-        let mut classes = Vec::new(alloc);
-        for class in &self.classes {
-            classes.push(class.clone()?)?;
-        }
-        Ok(classes)
-    }
-
     /// No classes.
-    pub fn empty(alloc: Global) -> Draft
+    pub fn empty() -> Draft
         ensures { result ≡ empty_schema }
     {
         Draft {
-            classes: Vec::new(alloc),
+            classes: Sequence::new(),
             next_field: 1,
         }
     }
@@ -137,8 +119,7 @@ impl Draft {
         if number == 0 {
             return None;
         }
-        let class = self.classes.get(number as usize - 1)?;
-        Some(class.as_ref())
+        self.classes.get(number as usize - 1)
     }
 
     /// The number of the class's parent, 0 where it has none or isn't there.
@@ -152,43 +133,33 @@ impl Draft {
     }
 
     /// The class in this place.
-    #[tactic(auto, using(crate::proofs::Sharing::class_placed))]
+    #[tactic(auto, using(crate::proofs::Sharing::class_placed, crate::proofs::Sharing::class_missing))]
     fn class_in(&self, place: usize) -> &ClassDef
         requires { place < length self.now.classes }
         ensures { result.now ≡ get_or self.now.classes place result.now }
     {
-        self.classes[place].as_ref()
+        match self.classes.get(place) {
+            Some(class) => class,
+            None => unreachable!(),
+        }
     }
 
     /// The number of each class by its name, where no two have one name.
-    pub fn numbers(&self, alloc: Global) -> Result<Option<BTreeMap<Vec<u8>, u32>>, AllocError>
+    pub fn numbers(&self, alloc: Global) -> Result<Option<Table<u32>>, AllocError>
         requires { length self.now.classes ≤ 65535 }
         ensures distinct { IfOk result (λ o. is_some o ≡ has_distinct_classes self.now) }
         ensures names { IfOk result (λ o. IfSome o (λ m. IsTable m self.now.classes)) }
     {
-        let mut numbers: BTreeMap<Vec<u8>, u32> = BTreeMap::new(alloc);
+        let mut numbers = Table::new();
         for place in (0..self.len()).rev() {
             let class = self.class_in(place);
-            let name = Vec::from_slice(alloc, class.name.as_slice())?;
-            if numbers.insert(name, place as u32 + 1)?.is_some() {
+            let name = class.name.as_slice();
+            if numbers.get(name).is_some() {
                 return Ok(None);
             }
+            numbers = numbers.with(alloc, name, place as u32 + 1)?;
         }
         Ok(Some(numbers))
-    }
-
-    /// The number of each class by its name; of two with one name the first.
-    pub fn table(&self, alloc: Global) -> Result<BTreeMap<Vec<u8>, u32>, AllocError>
-        requires { length self.now.classes ≤ 65535 }
-        ensures { IfOk result (λ m. IsTable m self.now.classes) }
-    {
-        let mut numbers: BTreeMap<Vec<u8>, u32> = BTreeMap::new(alloc);
-        for place in (0..self.len()).rev() {
-            let class = self.class_in(place);
-            let name = Vec::from_slice(alloc, class.name.as_slice())?;
-            numbers.insert(name, place as u32 + 1)?;
-        }
-        Ok(numbers)
     }
 
     /// Whether each class has at most 32 ancestors and 255 fields, of which no two have one name.

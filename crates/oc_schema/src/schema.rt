@@ -7,18 +7,19 @@ ghost use Rattle.oc_model.specs.Schemas.{empty_schema, class_named, class_at, fi
 ghost use Rattle.oc_model.specs.SchemaRules.{keeps_rules};
 ghost use Rattle.oc_model.specs.SchemaSteps.{stored_fields, past_field};
 ghost use Rattle.oc_model.specs.StoreRules.{is_known, Suits};
-ghost use Rattle.oc_schema.specs.Drafts.{schema_of, own_rules_keep, suits_by_parts};
+ghost use Rattle.oc_schema.specs.Drafts.{schema_of, own_rules_keep, suits_by_parts, IsRenamed};
+ghost use Rattle.oc_shared.specs.Tables.{value_at};
 
-use crate::class_rules::all_keep_rules;
+use crate::class_rules::{all_keep_rules, is_same};
 use crate::distinct::have_distinct_ids;
 use crate::draft::Draft;
 use crate::entries::{all_fit, are_by_id};
 use crate::fields::{copies, latest_past};
 use oc_model::schema::{ClassDef, FieldDef};
 use oc_model::value::{Entry, Kind, Rec};
+use oc_shared::Table;
 use sqlite_items::Items;
 use std::alloc::{AllocError, Global};
-use std::collections::BTreeMap;
 use std::marker::Model;
 
 /// The classes of a schema, class 1 first.
@@ -31,8 +32,8 @@ const CLASS_LIMIT: usize = 65_535;
 #[derive(Drop)]
 pub struct Schema {
     draft: Draft,
-    /// The number of each class by its name. It is a tree, so a chosen name costs no more than another.
-    numbers: BTreeMap<Vec<u8>, u32>,
+    /// The number of each class by its name.
+    numbers: Table<u32>,
 }
 
 impl Model for Schema {
@@ -59,7 +60,7 @@ impl Schema {
         if !own_rules_hold(alloc, classes.as_slice(), next_field)? {
             return Ok(None);
         }
-        let draft = Draft::share(alloc, classes, next_field)?;
+        let draft = Draft::of(alloc, classes, next_field)?;
         if !draft.lines_keep_rules(alloc)? {
             return Ok(None);
         }
@@ -74,8 +75,8 @@ impl Schema {
         ensures { result ≡ empty_schema }
     {
         Schema {
-            draft: Draft::empty(alloc),
-            numbers: BTreeMap::new(alloc),
+            draft: Draft::empty(),
+            numbers: Table::new(),
         }
     }
 
@@ -89,9 +90,10 @@ impl Schema {
         requires { keeps_rules (schema_of (self.now.classes ++ class ∷ []) next_field) ≡ true }
         ensures { IfOk result (λ s. s ≡ schema_of (self.now.classes ++ class ∷ []) next_field) }
     {
+        let number = self.draft.len() as u32 + 1;
+        let numbers = self.numbers.with(alloc, class.name.as_slice(), number)?;
         let draft = self.draft.with_class(alloc, class, next_field)?;
-        let schema = Schema::kept(alloc, draft)?;
-        Ok(schema)
+        Ok(Schema { draft, numbers })
     }
 
     /// With this class in place of the one of this number, and this next field id, which keep the rules. The other classes are shared.
@@ -107,18 +109,17 @@ impl Schema {
         requires rules { keeps_rules (schema_of (slice_set self.now.classes (number - 1) class) next_field) ≡ true }
         ensures { IfOk result (λ s. s ≡ schema_of (slice_set self.now.classes (number - 1) class) next_field) }
     {
+        let Some(old) = self.draft.class(number) else {
+            unreachable!()
+        };
+        let numbers = renamed(
+            alloc,
+            &self.numbers,
+            number,
+            old.name.as_slice(),
+            class.name.as_slice(),
+        )?;
         let draft = self.draft.with_class_at(alloc, number, class, next_field)?;
-        let schema = Schema::kept(alloc, draft)?;
-        Ok(schema)
-    }
-
-    /// The schema of parts that keep the rules.
-    #[tactic(auto, using(crate::proofs::Parting::few_classes))]
-    fn kept(alloc: Global, draft: Draft) -> Result<Schema, AllocError>
-        requires { keeps_rules draft ≡ true }
-        ensures { IfOk result (λ s. s ≡ draft) }
-    {
-        let numbers = draft.table(alloc)?;
         Ok(Schema { draft, numbers })
     }
 
@@ -237,4 +238,25 @@ fn own_rules_hold(alloc: Global, classes: &[ClassDef], next_field: u32) -> Resul
     }
     let distinct = have_distinct_ids(alloc, classes)?;
     Ok(distinct)
+}
+
+/// The numbers by the names, where the class of this number goes by another name than before, or by the same.
+#[tactic(auto, using(crate::proofs::Names::kept, crate::proofs::Names::exchanged))]
+fn renamed(
+    alloc: Global,
+    numbers: &Table<u32>,
+    number: u32,
+    from: &[u8],
+    to: &[u8],
+) -> Result<Table<u32>, AllocError>
+    requires { value_at numbers.now from.now ≡ Some number }
+    ensures { IfOk result (IsRenamed numbers.now number from.now to.now) }
+{
+    if is_same(from, to) {
+        let numbers = numbers.share()?;
+        return Ok(numbers);
+    }
+    let others = numbers.without(alloc, from)?;
+    let numbers = others.with(alloc, to, number)?;
+    Ok(numbers)
 }

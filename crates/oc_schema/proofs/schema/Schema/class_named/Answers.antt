@@ -7,4 +7,4 @@ use Rattle.oc_schema.proofs.schema.Schema.class_named.Goals as goal
 pub returns-clause-there : goal.returns-clause-there
 returns-clause-there c =
     let name = c.args.name.now in
-    some_there c.args.self.now name c.copied.result (c.copied.ensures ∙ c.get.ensures.value ∙ c.self.invariant.table name ∙ ap (λ s. class_named s name) c.self.view_is)
+    some_there c.args.self.now name c.copied.result (c.copied.ensures ∙ c.get.ensures ∙ c.self.invariant.table name ∙ ap (λ s. class_named s name) c.self.view_is)
