@@ -26,7 +26,9 @@ fn line_of(alloc: Global, number: u32) -> Result<String, AllocError> {
     match number % 4 {
         0 => format!(in alloc; "make Pilot {{ name: \"P{number}\", points: {number} }}"),
         1 => format!(in alloc; "make Car {{ model: \"M{number}\", pilot: ~{number} }}"),
-        2 => format!(in alloc; "query Pilot where points > {number} and not name = \"P{number}\" order points desc"),
+        2 => format!(in alloc;
+            "query Pilot where points > {number} and not name = \"P{number}\" order points desc"
+        ),
         _ => format!(in alloc; "let car.pilot = ~{number}"),
     }
 }

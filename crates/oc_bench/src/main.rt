@@ -8,9 +8,9 @@ mod records;
 
 use fault::Fault;
 use std::alloc::Global;
+use std::env;
 use std::process::ExitCode;
 use std::rt::Env;
-use std::env;
 
 /// What the words ask for.
 #[derive(Drop)]
