@@ -1,4 +1,4 @@
-mod FromBehind
+pub mod FromBehind
 pub mod Names
 pub mod Sharing
 pub mod Ancestry

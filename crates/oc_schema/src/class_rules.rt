@@ -94,7 +94,7 @@ fn may_follow(first: &FieldDef, next: &FieldDef) -> bool
 // ---- names
 
 /// Whether the bytes are a name.
-fn is_name(name: &[u8]) -> bool
+pub fn is_name(name: &[u8]) -> bool
     ensures { result ≡ names name.now }
 {
     begins_name(name) && is_of_name(name) && name.len() <= NAME_LIMIT && !is_reserved(name)
