@@ -1,9 +1,8 @@
 -- A class with another name: all rules but those on names are as they were.
-use Rattle.std.proofs.Common.{◌≡◌, refl, sym, ap, ◌∙◌, subst, ℕ, zero, suc, ◌+◌, ◌-◌, ◌≤◌, Bool, true, false, not, ◌&&◌, ◌||◌, ◌==◌, nat_lt, nat_le, List, [], ◌∷◌, ◌++◌, length, map, filter, flat_map, slice_get, slice_set, Option, Some, None, is_some, cond, arith}
+use Rattle.std.proofs.Common.{◌≡◌, refl, sym, ap, ◌∙◌, ℕ, zero, suc, ◌+◌, ◌-◌, ◌≤◌, Bool, true, false, not, ◌&&◌, ◌||◌, ◌==◌, nat_lt, nat_le, List, [], ◌∷◌, ◌++◌, length, map, filter, flat_map, slice_get, slice_set, Option, Some, None, is_some, cond, true≢false}
 use Rattle.std.specs.List.{list_all, list_any, enumerate_from}
 use Rattle.std.proofs.lemmas.Bool.{and_parts, or_parts, not-true}
 use Rattle.std.specs.Cmp.Lexicographic.{nat_list_eq_equiv}
-use Rattle.oc_model.specs.declared.schema.FieldDef.{FieldDef}
 use Rattle.oc_model.specs.declared.schema.ClassDef.{ClassDef}
 use Rattle.oc_model.specs.Maps.{Text, same, are_distinct}
 use Rattle.oc_model.specs.Schemas.{Schema, class_at, class_named, number_from, parent_of, own_fields, fields_within, below_within, fields_of, is_sub}
@@ -11,6 +10,9 @@ use Rattle.oc_model.specs.SchemaRules.{is_name, is_above, ancestors, has_distinc
 use Rattle.oc_schema.specs.ClassRules.{fields_keep, class_keeps}
 use Rattle.oc_schema.specs.Drafts.{schema_of, line_keeps, lines_keep, own_rules_keep}
 use Rattle.oc_schema.proofs.Parting.{parted}
+use Rattle.oc_refactor.proofs.OneClass.{at_number, changed}
+use Rattle.std.specs.Prelude.{Ok}
+use Rattle.oc_model.specs.SchemaSteps.{class_renamed}
 
 -- the same class under another name
 abbrev pub renamed : ClassDef → Text → ClassDef
@@ -18,13 +20,13 @@ renamed d to = record { name = to; parent = d.parent; fields = d.fields }
 
 -- ---- lists with one element replaced
 
-length_kept : {X : Type 0} (xs : List X) (i : ℕ) (x : X) → length (slice_set xs i x) ≡ length xs
+pub length_kept : {X : Type 0} (xs : List X) (i : ℕ) (x : X) → length (slice_set xs i x) ≡ length xs
 length_kept [] i x = refl
 length_kept (y ∷ xs) zero x = refl
 length_kept (y ∷ xs) (suc i) x = ap suc (length_kept xs i x)
 
 -- what is said of the class is said of the other in its place
-get_kept : {Y : Type 0} (f : Option ClassDef → Y) (cs : List ClassDef) (i : ℕ) (d e : ClassDef) (j : ℕ) → slice_get cs i ≡ Some d → f (Some e) ≡ f (Some d) → f (slice_get (slice_set cs i e) j) ≡ f (slice_get cs j)
+pub get_kept : {Y : Type 0} (f : Option ClassDef → Y) (cs : List ClassDef) (i : ℕ) (d e : ClassDef) (j : ℕ) → slice_get cs i ≡ Some d → f (Some e) ≡ f (Some d) → f (slice_get (slice_set cs i e) j) ≡ f (slice_get cs j)
 get_kept f [] i d e j h k = absurd (cc)
 get_kept f (c ∷ cs) zero d e zero h k = k ∙ ap f (sym h)
 get_kept f (c ∷ cs) zero d e (suc j) h k = refl
@@ -36,7 +38,7 @@ flat_kept f [] i d e h k = absurd (cc)
 flat_kept f (c ∷ cs) zero d e h k = let q : c ≡ d = cc in ap (λ ys. ys ++ flat_map f cs) (k ∙ ap f (sym q))
 flat_kept f (c ∷ cs) (suc i) d e h k = ap (λ ys. f c ++ ys) (flat_kept f cs i d e h k)
 
-all_kept : (p : ℕ × ClassDef → Bool) (n : ℕ) (cs : List ClassDef) (i : ℕ) (d e : ClassDef) → slice_get cs i ≡ Some d → ((m : ℕ) → p (m, d) ≡ true → p (m, e) ≡ true)
+pub all_kept : (p : ℕ × ClassDef → Bool) (n : ℕ) (cs : List ClassDef) (i : ℕ) (d e : ClassDef) → slice_get cs i ≡ Some d → ((m : ℕ) → p (m, d) ≡ true → p (m, e) ≡ true)
     → list_all p (enumerate_from n cs) ≡ true → list_all p (enumerate_from n (slice_set cs i e)) ≡ true
 all_kept p n [] i d e h k all = absurd (cc)
 all_kept p n (c ∷ cs) zero d e h k all =
@@ -48,12 +50,12 @@ all_kept p n (c ∷ cs) (suc i) d e h k all =
     ap (λ b. b && list_all p (enumerate_from (n + 1) (slice_set cs i e))) r.0 ∙ all_kept p (n + 1) cs i d e h k r.1
 
 -- tests of numbers alone say the same
-numbers_kept : (f : ℕ → Bool) (n : ℕ) (cs : List ClassDef) (i : ℕ) (e : ClassDef) → list_all (λ x. f x.0) (enumerate_from n (slice_set cs i e)) ≡ list_all (λ x. f x.0) (enumerate_from n cs)
+pub numbers_kept : (f : ℕ → Bool) (n : ℕ) (cs : List ClassDef) (i : ℕ) (e : ClassDef) → list_all (λ x. f x.0) (enumerate_from n (slice_set cs i e)) ≡ list_all (λ x. f x.0) (enumerate_from n cs)
 numbers_kept f n [] i e = refl
 numbers_kept f n (c ∷ cs) zero e = refl
 numbers_kept f n (c ∷ cs) (suc i) e = ap (λ b. f n && b) (numbers_kept f (n + 1) cs i e)
 
-counted : (f : ℕ → Bool) (n : ℕ) (cs : List ClassDef) (i : ℕ) (e : ClassDef)
+pub counted : (f : ℕ → Bool) (n : ℕ) (cs : List ClassDef) (i : ℕ) (e : ClassDef)
     → length (filter (λ (x : ℕ × ClassDef). f x.0) (enumerate_from n (slice_set cs i e))) ≡ length (filter (λ (x : ℕ × ClassDef). f x.0) (enumerate_from n cs))
 counted f n [] i e = refl
 counted f n (c ∷ cs) zero e =
@@ -66,7 +68,7 @@ counted f n (c ∷ cs) (suc i) e =
 
 -- ---- names
 
-none_named : (n : ℕ) (cs : List ClassDef) (to : Text) → number_from n cs to ≡ None → list_any (same to) (map (λ c. c.name) cs) ≡ false
+pub none_named : (n : ℕ) (cs : List ClassDef) (to : Text) → number_from n cs to ≡ None → list_any (same to) (map (λ c. c.name) cs) ≡ false
 none_named n [] to h = refl
 none_named n (c ∷ cs) to h =
     (elim (same c.name to) as (λ b. same c.name to ≡ b → cond b (Some n) (number_from (n + 1) cs to) ≡ None → (same to c.name || list_any (same to) (map (λ c. c.name) cs)) ≡ false) [
@@ -157,3 +159,16 @@ module _ (s : Schema) (i : ℕ) (d : ClassDef) (to : Text) (h : slice_get s.clas
       let p2 = and_parts (own_rules_keep s.classes s.next_field) (lines_keep s) p1.0 in
       parted (slice_set s.classes i (renamed d to)) s.next_field few
       ∙ (λ j. own_rules_kept named p2.0 j && (lines_kept ∙ p2.1) j && names_kept 1 s.classes i d to free p1.1 j)
+
+nothing : {X : Type 0} (o : Option X) → is_some o ≡ false → o ≡ None
+nothing None h = refl
+nothing (Some x) h = absurd (true≢false h)
+
+pub renamed_keeps : (s : Schema) (c : ℕ) (d : ClassDef) (to : Text) → class_at s c ≡ Some d → keeps_rules s ≡ true → s.next_field ≤ 4294967295 → is_name to ≡ true → is_some (class_named s to) ≡ false
+    → keeps_rules (schema_of (slice_set s.classes (c - 1) (renamed d to)) s.next_field) ≡ true
+renamed_keeps s c d to h k few named free = rename_keeps s (c - 1) d to (at_number s c d h) k few named (nothing _ free)
+
+pub renamed_told : (s : Schema) (name to : Text) (c : ℕ) (d : ClassDef) → class_named s name ≡ Some c → is_some (class_named s to) ≡ false → class_at s c ≡ Some d
+    → class_renamed s name to ≡ Ok (schema_of (slice_set s.classes (c - 1) (renamed d to)) s.next_field)
+unfolding class_renamed
+renamed_told s name to c d h free l = rw (h, nothing _ free, changed s c (λ e. renamed e to) d l) refl

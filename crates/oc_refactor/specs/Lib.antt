@@ -1,1 +1,4 @@
 pub mod Answers
+pub mod Around
+pub mod ById
+pub mod Fields

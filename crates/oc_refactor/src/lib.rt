@@ -2,9 +2,20 @@
 #![tactic(auto)]
 
 mod convert;
+mod declaration;
 mod fields;
+mod index;
+mod limits;
+mod names;
+mod past;
+mod related;
+mod rename;
+mod stated;
 
 pub use convert::{ConvertFault, ConvertPlan, convert_plan};
+pub use declaration::{DeclareFault, declare};
+pub use index::{IndexFault, set_index};
+pub use rename::{RenameClassFault, RenameFieldFault, rename_class, rename_field};
 
 #[cfg(test)]
 mod tests;
