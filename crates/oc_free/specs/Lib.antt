@@ -1,0 +1,2 @@
+pub mod FreeParts
+pub mod Orders
