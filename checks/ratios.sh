@@ -37,3 +37,4 @@ grows() {
 grows lines 100000 400000 4.6
 grows line 32767 65535 2.3
 grows decode 100000 400000 4.6
+grows classes 5000 10000 2.6

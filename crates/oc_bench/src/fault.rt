@@ -1,6 +1,7 @@
 //! What ends a piece of work before its time.
 
 use oc_marshal::DecodeFault;
+use oc_refactor::DeclareFault;
 use oc_script::LineFault;
 use std::alloc::AllocError;
 use std::io;
@@ -10,7 +11,7 @@ pub enum Fault {
     Memory,
     /// The words can't be had, or nothing can be said.
     Streams,
-    /// A line or a record that was made here isn't read.
+    /// A line or a record that was made here isn't read, or a class is refused.
     Refused,
 }
 
@@ -35,5 +36,14 @@ impl From<LineFault> for Fault {
 impl From<DecodeFault> for Fault {
     fn from(_fault: DecodeFault) -> Fault {
         Fault::Refused
+    }
+}
+
+impl From<DeclareFault> for Fault {
+    fn from(fault: DeclareFault) -> Fault {
+        match fault {
+            DeclareFault::Memory => Fault::Memory,
+            _ => Fault::Refused,
+        }
     }
 }

@@ -2,6 +2,7 @@
 //! takes its time.
 #![tactic(auto)]
 
+mod classes;
 mod fault;
 mod lines;
 mod records;
@@ -36,7 +37,8 @@ fn done(alloc: Global, work: &Work) -> Result<Option<u64>, Fault> {
     match work.piece.as_str() {
         "lines" => lines::bytes_answered(alloc, work.count).map(Some),
         "line" => lines::numbers_read(alloc, work.count).map(Some),
-        "decode" => records::numbers_decoded(alloc, work.count).map(Some),
+        "classes" => classes::classes_declared(alloc, work.count).map(Some),
+        "decode" => records::entries_decoded(alloc, work.count).map(Some),
         _ => Ok(None),
     }
 }

@@ -148,7 +148,7 @@ module _ (s : Schema) (name : Text) (p : ℕ) (ds : List Decl)
       let n = length s.classes in
       let f : ℕ × ClassDef → Bool = λ e. are_distinct (map (λ f. f.name) (fields_of t e.0)) in
       let last : are_distinct (map (λ f. f.name) (fields_of t (1 + n))) ≡ true =
-          subst (λ c. are_distinct (map (λ f. f.name) (fields_of t c)) ≡ true) {x = suc n} {y = 1 + n} (omega arith) (ap (λ fs. are_distinct (map (λ f. f.name) fs)) fields_of_new ∙ line) in
+      subst (λ c. are_distinct (map (λ f. f.name) (fields_of t c)) ≡ true) {x = suc n} {y = 1 + n} (omega arith) (ap (λ fs. are_distinct (map (λ f. f.name) fs)) fields_of_new ∙ line) in
       ap (list_all f) (enumerated 1 s.classes new)
       ∙ list_all-append f (enumerate_from 1 s.classes) ((1 + n, new) ∷ [])
       ∙ and_from _ _

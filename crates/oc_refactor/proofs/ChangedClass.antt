@@ -392,9 +392,9 @@ module _ (s : Schema) (k : ℕ) (d : ClassDef) (ds : List Decl)
             let b = length r.before in
             let a = length r.after in
             let was : length (fields_within m s m) ≡ b + (length own + a) =
-                ap (λ (fs : List FieldDef). length fs) r.was ∙ length-append r.before (own ++ r.after) ∙ ap (λ n. b + n) (length-append own r.after) in
+            ap (λ (fs : List FieldDef). length fs) r.was ∙ length-append r.before (own ++ r.after) ∙ ap (λ n. b + n) (length-append own r.after) in
             let is : length (fields_within m t m) ≡ b + (length ds + a) =
-                ap (λ (fs : List FieldDef). length fs) r.is ∙ length-append r.before (stated ++ r.after) ∙ ap (λ n. b + n) (length-append stated r.after ∙ ap (λ n. n + a) (length_stated d.fields s.next_field ds)) in
+            ap (λ (fs : List FieldDef). length fs) r.is ∙ length-append r.before (stated ++ r.after) ∙ ap (λ n. b + n) (length-append stated r.after ∙ ap (λ n. n + a) (length_stated d.fields s.next_field ds)) in
             ap (λ n. nat_le n 255) is
             ∙ lengths_swapped b (length ds) (length own) a
             ∙ (λ i. not (sym r.sub i) || nat_le (sym was i + length ds) (255 + length (sym before_now i)))
@@ -408,9 +408,9 @@ module _ (s : Schema) (k : ℕ) (d : ClassDef) (ds : List Decl)
   unfolding is_sub
   few_ancestors =
       let same_count : (c : ℕ) → length (ancestors t c) ≡ length (ancestors s c) =
-          λ c.
-          counted (λ m. is_above t m c) 1 s.classes k e
-          ∙ ap (λ (f : ℕ → Bool). length (filter (λ (x : ℕ × ClassDef). f x.0) (enumerate_from 1 s.classes))) (λ j m. not (m == c) && below_kept c c m j) in
+      λ c.
+      counted (λ m. is_above t m c) 1 s.classes k e
+      ∙ ap (λ (f : ℕ → Bool). length (filter (λ (x : ℕ × ClassDef). f x.0) (enumerate_from 1 s.classes))) (λ j m. not (m == c) && below_kept c c m j) in
       numbers_kept (λ c. nat_le (length (ancestors t c)) 32) 1 s.classes k e
       ∙ ap (λ (f : ℕ → Bool). list_all (λ x. f x.0) (enumerate_from 1 s.classes)) (λ j c. nat_le (same_count c j) 32)
       ∙ (limits_kept s (rules_kept s rules).within).ancestors

@@ -45,10 +45,10 @@ unfolding keeps_rules
 parts_keep t p =
     let fs = all_fields t in
     let part : (f : FieldDef) → IsOneOf f fs → ((is_name f.name && (nat_le 1 f.id && nat_lt f.id t.next_field)) ≡ true) × ((f.current || not f.indexed) ≡ true) × (not (f.indexed && is_array f.kind) ≡ true) =
-        λ f i.
-        let r = and_parts (is_name f.name && (nat_le 1 f.id && nat_lt f.id t.next_field) && (f.current || not f.indexed)) (not (f.indexed && is_array f.kind)) (p.fields f i) in
-        let q = and_parts (is_name f.name && (nat_le 1 f.id && nat_lt f.id t.next_field)) (f.current || not f.indexed) r.0 in
-        (q.0, q.1, r.1) in
+    λ f i.
+    let r = and_parts (is_name f.name && (nat_le 1 f.id && nat_lt f.id t.next_field) && (f.current || not f.indexed)) (not (f.indexed && is_array f.kind)) (p.fields f i) in
+    let q = and_parts (is_name f.name && (nat_le 1 f.id && nat_lt f.id t.next_field)) (f.current || not f.indexed) r.0 in
+    (q.0, q.1, r.1) in
     let named = all_from (λ (f : FieldDef). is_name f.name) fs (λ f i. (and_parts (is_name f.name) _ (part f i).0).0) in
     let drawn = all_from (λ (f : FieldDef). nat_le 1 f.id && nat_lt f.id t.next_field) fs (λ f i. (and_parts (is_name f.name) _ (part f i).0).1) in
     let past = all_from (λ (f : FieldDef). f.current || not f.indexed) fs (λ f i. (part f i).1) in
