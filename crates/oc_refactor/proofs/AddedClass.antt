@@ -1,5 +1,5 @@
 -- With a new class the rules hold where the limits do.
-use Rattle.std.proofs.Common.{◌≡◌, ◌⊎◌, refl, sym, ap, ◌∙◌, subst, ℕ, zero, suc, ◌+◌, ◌≤◌, ◌<◌, inl, inr, Bool, true, false, not, ◌&&◌, ◌||◌, ◌==◌, nat_lt, nat_le, List, [], ◌∷◌, ◌++◌, length, map, filter, find, flat_map, Option, Some, None, is_some, cond, arith, true≢false, append-nil}
+use Rattle.std.proofs.Common.{◌≡◌, refl, sym, ap, ◌∙◌, subst, ℕ, zero, suc, ◌+◌, ◌≤◌, inl, inr, Bool, true, false, not, ◌&&◌, ◌||◌, nat_lt, nat_le, List, [], ◌∷◌, ◌++◌, length, map, filter, find, Some, None, is_some, cond, arith, true≢false, append-nil}
 use Rattle.std.specs.Prelude.{Ok, Err}
 use Rattle.std.specs.List.{list_all, list_any, enumerate_from}
 use Rattle.std.proofs.lemmas.Bool.{and_parts, and_from, not-true, or_parts}
@@ -13,10 +13,10 @@ use Rattle.oc_model.specs.declared.schema.FieldDef.{FieldDef}
 use Rattle.oc_model.specs.declared.schema.ClassDef.{ClassDef}
 use Rattle.oc_model.specs.Lists.{IsOneOf}
 use Rattle.oc_model.specs.Maps.{Text, same, are_distinct}
-use Rattle.oc_model.specs.Schemas.{Schema, class_at, class_named, number_from, current, own_fields, parent_of, fields_of, field_named}
+use Rattle.oc_model.specs.Schemas.{Schema, class_named, current, parent_of, fields_of, field_named}
 use Rattle.oc_model.specs.SchemaRules.{is_name, all_fields, are_apart, are_in_order, has_earlier_parents, has_distinct_names, ancestors, is_within_limits, keeps_rules}
 use Rattle.oc_model.specs.SchemaSteps.{stated_fields, declared_fields, is_new, with_new_class, declared_new, names_of, stored_fields}
-use Rattle.oc_model.proofs.Elements.{in_append, from_map, any_passes, to_map}
+use Rattle.oc_model.proofs.Elements.{in_append, from_map}
 use Rattle.oc_model.proofs.NewChild.{new_child_limits}
 use Rattle.oc_model.proofs.NewClass.{IsEarlier, is_earlier, grown, at_the_end, enumerated, all_kept, fields_of_old}
 use Rattle.oc_model.proofs.Rules.{rules_kept}

@@ -1,5 +1,5 @@
 -- With the fields of a class declared anew the rules hold where the limits do.
-use Rattle.std.proofs.Common.{◌≡◌, ◌⊎◌, refl, sym, ap, ◌∙◌, subst, ℕ, zero, suc, ◌+◌, ◌-◌, ◌≤◌, ◌<◌, inl, inr, Bool, true, false, not, ◌&&◌, ◌||◌, ◌==◌, nat_lt, nat_le, List, [], ◌∷◌, ◌++◌, length, map, filter, flat_map, slice_get, slice_set, Some, arith, true≢false, append-nil, append_assoc, length-append}
+use Rattle.std.proofs.Common.{◌≡◌, ◌⊎◌, refl, sym, ap, ◌∙◌, subst, ℕ, zero, suc, ◌+◌, ◌≤◌, ◌<◌, inl, inr, Bool, true, false, not, ◌&&◌, ◌||◌, ◌==◌, nat_lt, nat_le, List, [], ◌∷◌, ◌++◌, length, map, filter, flat_map, slice_get, slice_set, Some, arith, true≢false, append-nil, append_assoc, length-append}
 use Rattle.std.specs.List.{list_all, list_any, enumerate_from}
 use Rattle.std.proofs.lemmas.Bool.{and_parts, and_from, or_parts, not-true, ne_eqb, eqb-true, cases_eq}
 use Rattle.std.proofs.lemmas.Bool.Decides.{nat_tests}
@@ -13,10 +13,10 @@ use Rattle.oc_model.specs.Lists.{IsOneOf}
 use Rattle.oc_model.specs.Maps.{Text, same, are_distinct}
 use Rattle.oc_model.specs.Schemas.{Schema, class_at, current, own_fields, parent_of, fields_within, below_within, fields_of, is_sub}
 use Rattle.oc_model.specs.SchemaRules.{is_name, numbered, all_fields, is_above, ancestors, are_apart, are_in_order, has_earlier_parents, has_distinct_names, is_within_limits, keeps_rules}
-use Rattle.oc_model.specs.SchemaSteps.{is_called, is_taken_around, stated_fields, declared_fields, is_new, names_of}
-use Rattle.oc_model.proofs.Elements.{in_append, in_left, in_right, from_map, from_flat_map, to_flat_map, to_map, any_passes, or_right, all_pass}
+use Rattle.oc_model.specs.SchemaSteps.{is_called, is_taken_around, stated_fields, declared_fields, names_of}
+use Rattle.oc_model.proofs.Elements.{in_append, in_left, in_right, from_map, from_flat_map, to_flat_map, any_passes, or_right, all_pass}
 use Rattle.oc_model.proofs.Inherited.{fields_same}
-use Rattle.oc_model.proofs.NewClass.{IsEarlier, is_earlier, no_fields, all_kept}
+use Rattle.oc_model.proofs.NewClass.{IsEarlier, is_earlier, all_kept}
 use Rattle.oc_model.proofs.Rules.{rules_kept, limits_kept}
 use Rattle.oc_schema.specs.ClassRules.{field_keeps}
 use Rattle.oc_schema.specs.Drafts.{schema_of}

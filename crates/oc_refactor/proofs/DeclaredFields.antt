@@ -1,9 +1,9 @@
 -- The fields that a declaration leaves a class keep the rules of fields.
-use Rattle.std.proofs.Common.{◌≡◌, ◌⊎◌, refl, sym, ap, ◌∙◌, subst, ℕ, zero, suc, ◌+◌, ◌≤◌, ◌<◌, inl, inr, Bool, true, false, not, ◌&&◌, ◌||◌, ◌==◌, nat_lt, nat_le, List, [], ◌∷◌, ◌++◌, length, map, filter, fold, Option, Some, None, is_some, cond, arith, true≢false, append-nil}
+use Rattle.std.proofs.Common.{◌≡◌, ◌⊎◌, refl, sym, ap, ◌∙◌, subst, ℕ, suc, ◌+◌, ◌≤◌, ◌<◌, inl, inr, Bool, true, false, not, ◌&&◌, ◌||◌, nat_lt, nat_le, List, [], ◌∷◌, ◌++◌, length, map, filter, fold, Option, Some, None, cond, arith, true≢false, append-nil}
 use Rattle.std.specs.Prelude.{if◌then◌else◌, is_none, unwrap_or, option_map}
 use Rattle.std.specs.Option.{option_or}
 use Rattle.std.specs.List.{list_all, list_any}
-use Rattle.std.proofs.lemmas.Bool.{and_parts, and_from, not-true, or_parts}
+use Rattle.std.proofs.lemmas.Bool.{and_parts, and_from, not-true}
 use Rattle.std.proofs.lemmas.Bool.Decides.{nat_tests}
 use Rattle.std.proofs.lemmas.List.{map-append}
 use Rattle.std.proofs.lemmas.List.Elements.{filter-append}
@@ -11,7 +11,7 @@ use Rattle.oc_model.specs.declared.command.Decl.{Decl}
 use Rattle.oc_model.specs.declared.schema.FieldDef.{FieldDef}
 use Rattle.oc_model.specs.Kinds.{is_array, same_kind}
 use Rattle.oc_model.specs.Lists.{IsOneOf}
-use Rattle.oc_model.specs.Maps.{Map, with_at, Text, same, is_in, are_distinct}
+use Rattle.oc_model.specs.Maps.{same, is_in, are_distinct}
 use Rattle.oc_model.specs.Schemas.{current}
 use Rattle.oc_model.specs.SchemaRules.{is_name, are_apart, are_in_order}
 use Rattle.oc_model.specs.SchemaSteps.{later_field, past_fields, past_field, kept_field, made_current, made_past, field_for, is_new, new_field, stated_fields, by_id, unstated_fields, declared_fields, names_of}
@@ -21,7 +21,7 @@ use Rattle.oc_model.proofs.SchemaLaws.{equal_texts, same_text}
 use Rattle.oc_schema.specs.ClassRules.{field_keeps}
 use Rattle.oc_refactor.proofs.Ascending.{by_id_from, by_id_apart, by_id_in_order}
 use Rattle.oc_refactor.proofs.KeepsRules.{AllKeep}
-use Rattle.oc_refactor.proofs.Apart.{AreDisjoint, first_apart, apart_from, apart_joined}
+use Rattle.oc_refactor.proofs.Apart.{AreDisjoint, apart_from, apart_joined}
 
 abbrev pub ids_of : List FieldDef → List ℕ
 ids_of fs = map (λ f. f.id) fs

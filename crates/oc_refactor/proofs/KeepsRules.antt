@@ -1,5 +1,5 @@
 -- The rules of a schema from their parts.
-use Rattle.std.proofs.Common.{◌≡◌, refl, sym, ap, ◌∙◌, ℕ, ◌≤◌, inl, inr, Bool, true, not, ◌&&◌, ◌||◌, nat_lt, nat_le, List, [], ◌∷◌, arith}
+use Rattle.std.proofs.Common.{◌≡◌, refl, ℕ, inl, inr, Bool, true, not, ◌&&◌, ◌||◌, nat_lt, nat_le, List, [], ◌∷◌}
 use Rattle.std.specs.List.{list_all}
 use Rattle.std.proofs.lemmas.Bool.{and_parts, and_from}
 use Rattle.oc_model.specs.declared.schema.FieldDef.{FieldDef}
@@ -9,7 +9,7 @@ use Rattle.oc_model.specs.Lists.{IsOneOf}
 use Rattle.oc_model.specs.Schemas.{Schema}
 use Rattle.oc_model.specs.SchemaRules.{is_name, all_fields, has_distinct_classes, has_earlier_parents, has_distinct_names, has_distinct_ids, has_ordered_fields, is_within_limits, keeps_rules}
 use Rattle.oc_model.proofs.Elements.{all_pass}
-use Rattle.oc_model.proofs.Rules.{Rules, rules_kept}
+use Rattle.oc_model.proofs.Rules.{rules_kept}
 use Rattle.oc_schema.specs.ClassRules.{field_keeps}
 
 -- each field keeps the rules of a field

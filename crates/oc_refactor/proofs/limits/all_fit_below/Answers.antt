@@ -1,4 +1,4 @@
-use Rattle.std.proofs.Common.{◌≡◌, ◌∙◌, sym, ◌<◌, length, arith}
+use Rattle.std.proofs.Common.{◌∙◌, sym, ◌<◌, length, arith}
 use Rattle.oc_refactor.specs.Around.{fits_below}
 use Rattle.oc_refactor.proofs.Counting.{all_stop, all_go}
 use Rattle.oc_refactor.proofs.limits.all_fit_below.Goals as goal

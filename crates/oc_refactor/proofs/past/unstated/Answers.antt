@@ -1,4 +1,4 @@
-use Rattle.std.proofs.Common.{◌≡◌, ◌∙◌, sym, ap, List, [], drop, map}
+use Rattle.std.proofs.Common.{◌∙◌, sym, ap, List, map}
 use Rattle.std.proofs.lemmas.List.{drop_all}
 use Rattle.oc_model.specs.declared.schema.FieldDef.{FieldDef}
 use Rattle.oc_model.specs.SchemaSteps.{made_past, unstated_fields}

@@ -1,4 +1,4 @@
-use Rattle.std.proofs.Common.{◌≡◌, ◌∙◌, ap, List, find, is_some}
+use Rattle.std.proofs.Common.{◌∙◌, ap, List, find, is_some}
 use denote.Ref.{Bor}
 use Rattle.std.specs.List.{list_any}
 use Rattle.oc_model.specs.declared.schema.ClassDef.{ClassDef}
