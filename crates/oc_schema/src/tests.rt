@@ -1,5 +1,3 @@
-ghost use Rattle.std.specs.Prelude.{◌≡◌, [], IfOk};
-
 use crate::{ClassDef, Classes, FieldDef, Fields, Schema};
 use oc_model::value::{Atom, Base, Entries, Entry, Kind, Rec, Txt, Value};
 use std::alloc::{AllocError, Global};
@@ -289,71 +287,6 @@ fn past_id(schema: &Schema, class: u32, name: &[u8]) -> Option<u32> {
 
 fn is_below(schema: &Schema, a: u32, b: u32) -> bool {
     schema.class(a).is_some() && schema.class(b).is_some() && schema.is_sub(a, b)
-}
-
-/// A class of its own without fields.
-fn plain(alloc: Global, name: &[u8]) -> Result<ClassDef, AllocError>
-    ensures { IfOk result (λ c. c ≡ record { name = name.now; parent = 0; fields = [] }) }
-{
-    Ok(ClassDef {
-        name: Txt::from_slice(alloc, name)?,
-        parent: 0,
-        fields: Fields::new(alloc),
-    })
-}
-
-/// A schema with the class `Cat`, the one with `Dog` behind it, and that with `Cow` in place of `Cat`.
-fn steps(alloc: Global) -> Result<Option<(Schema, Schema, Schema)>, AllocError> {
-    let mut one = Classes::new(alloc);
-    one.push(plain(alloc, b"Cat")?)?;
-    let mut two = Classes::new(alloc);
-    two.push(plain(alloc, b"Cat")?)?;
-    two.push(plain(alloc, b"Dog")?)?;
-    let mut other = Classes::new(alloc);
-    other.push(plain(alloc, b"Cow")?)?;
-    other.push(plain(alloc, b"Dog")?)?;
-    let (Some(first), Some(of_two), Some(of_other)) = (
-        Schema::of(alloc, one, 1)?,
-        Schema::of(alloc, two, 1)?,
-        Schema::of(alloc, other, 1)?,
-    ) else {
-        return Ok(None);
-    };
-    of_two.keeps_rules();
-    of_other.keeps_rules();
-    let second = first.with_class(alloc, plain(alloc, b"Dog")?, 1)?;
-    let third = second.with_class_at(alloc, 1, plain(alloc, b"Cow")?, 1)?;
-    Ok(Some((first, second, third)))
-}
-
-#[test]
-fn a_step_leaves_the_schema_as_it_was(rt: HostRuntime) -> Result<(), Fail> {
-    let Some((first, second, third)) = steps(rt.alloc())? else {
-        assert!(rt; false, "the rules are kept");
-        return Ok(());
-    };
-    for (name, numbers) in [
-        (b"Cat".as_slice(), [Some(1), Some(1), None]),
-        (b"Dog", [None, Some(2), Some(2)]),
-        (b"Cow", [None, None, Some(1)]),
-    ] {
-        assert_eq!(rt; first.class_named(name), numbers[0]);
-        assert_eq!(rt; second.class_named(name), numbers[1]);
-        assert_eq!(rt; third.class_named(name), numbers[2]);
-    }
-    for (schema, len, name) in [
-        (&first, 1, b"Cat".as_slice()),
-        (&second, 2, b"Cat"),
-        (&third, 2, b"Cow"),
-    ] {
-        assert_eq!(rt; schema.len(), len);
-        assert!(rt;
-            schema
-                .class(1)
-                .is_some_and(|class| class.name.as_slice() == name)
-        );
-    }
-    Ok(())
 }
 
 #[test]
