@@ -1,0 +1,14 @@
+pub mod Read
+pub mod Settled
+pub mod Backs
+pub mod Gone
+pub mod Leaving
+pub mod Gaps
+pub mod Filling
+pub mod Replacing
+pub mod Eaches
+pub mod Puts
+pub mod Rotated
+pub mod StandingIn
+pub mod Views
+pub mod Located

@@ -1,0 +1,10 @@
+pub mod Adding
+pub mod Ascending
+pub mod Places
+pub mod Reading
+pub mod Removing
+pub mod Settling
+pub mod Chunks
+pub mod Cutting
+pub mod Editing
+pub mod Pieces

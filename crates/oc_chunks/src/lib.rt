@@ -1,0 +1,20 @@
+//! A list in ascending order, kept in chunks.
+#![tactic(auto)]
+
+mod adding;
+mod cutting;
+mod editing;
+mod entry;
+mod list;
+mod piece;
+mod reading;
+mod removing;
+mod search;
+mod settling;
+
+pub use entry::{At, Cut, Entry};
+pub use list::ChunkList;
+pub use reading::ChunkView;
+
+#[cfg(test)]
+mod tests;

@@ -1,0 +1,97 @@
+//! The list in chunks.
+
+ghost use Rattle.std.specs.Prelude.{◌≡◌, [], map, IfOk, OnOk, OnErr};
+ghost use Rattle.std.specs.List.{list_any, flat_map};
+ghost use Rattle.std.specs.Ordering.{is_eq};
+ghost use Rattle.oc_chunks.specs.Ascending.{entered, Each, IsAscending};
+ghost use Rattle.oc_chunks.specs.Reading.{chunk_of};
+ghost use Rattle.oc_chunks.specs.Chunks.{IsCutFrom, IsSizedChunk, joined, left, numbers as numbers_of};
+
+use crate::entry::{Cut, Entry};
+use crate::piece::Piece;
+use crate::reading::{ChunkView, views};
+use crate::settling::{Keep, settle};
+use crate::{adding, removing};
+use std::alloc::{AllocError, Global};
+use std::marker::Model;
+
+/// Entries in ascending order, no two equal, in chunks of 1 to 512. It keeps what its chunks were
+/// at the last mark: `undo` gives them back.
+#[derive(Drop)]
+pub struct ChunkList<E: Entry> {
+    pieces: Vec<Piece<E>>,
+}
+
+impl<E: Entry> Model for ChunkList<E> {
+    ghost use Rattle.oc_chunks.specs.Chunks.{Chunked, chunked_code};
+    ghost use Rattle.oc_chunks.specs.Pieces.{view as list_of, IsSound};
+
+    ghost Value = { Chunked E };
+
+    ghost coded = { chunked_code E.code };
+
+    ghost view = { λ l. list_of E.order l.pieces.items };
+
+    ghost invariant = { λ l. IsSound E.order l.pieces.items };
+}
+
+impl<E: Entry> ChunkList<E> {
+    /// No entries, at the mark too.
+    pub fn new(alloc: Global) -> ChunkList<E>
+        ensures chunks { result.chunks ≡ [] }
+        ensures marked { result.marked ≡ [] }
+    {
+        ChunkList {
+            pieces: Vec::new(alloc),
+        }
+    }
+
+    /// The chunks in order. Each has 1 to 512 entries, and no two entries are equal.
+    pub fn chunks<'a>(&'a self, alloc: Global) -> Result<Vec<ChunkView<'a, E>>, AllocError>
+        ensures chunks { IfOk result (λ v. map chunk_of v.items ≡ self.now.chunks) }
+        ensures sized { Each IsSizedChunk self.now.chunks }
+        ensures ascending { IsAscending E.order (joined self.now.chunks) }
+    {
+        views(alloc, self.pieces.as_slice())
+    }
+
+    /// Puts the entry at its place, if none is equal to it. A chunk that comes to more than the
+    /// bound is cut; at the end of the list it stays, and a new one begins.
+    pub fn add(&mut self, alloc: Global, entry: E) -> Result<(), AllocError>
+        ensures entries { OnOk result (joined self.new.chunks ≡ entered E.order entry (joined self.old.chunks)) }
+        ensures numbers { OnOk result (numbers_of self.new.chunks ≡ numbers_of self.old.chunks) }
+        ensures chunks { OnOk result (IsCutFrom E.bytes E.MOST self.old.chunks self.new.chunks) }
+        ensures marked { OnOk result (self.new.marked ≡ self.old.marked) }
+        ensures err { OnErr result (self.new ≡ self.old) }
+    {
+        adding::add(alloc, &mut self.pieces, entry)?;
+        Ok(())
+    }
+
+    /// Takes the entry at the place out, if there is one. The chunk that had it has changed, and
+    /// goes if it is empty. It takes no memory.
+    pub fn remove<C: Cut<E>>(&mut self, cut: &C) -> bool
+        ensures there { result ≡ list_any (λ e. is_eq (C.side cut.now e)) (joined self.old.chunks) }
+        ensures chunks { self.new.chunks ≡ flat_map (left (λ e. is_eq (C.side cut.now e))) self.old.chunks }
+        ensures marked { self.new.marked ≡ self.old.marked }
+    {
+        removing::remove(&mut self.pieces, cut)
+    }
+
+    /// The list as it is becomes what `undo` gives back. It takes no memory.
+    pub fn mark(&mut self)
+        ensures chunks { self.new.chunks ≡ self.old.chunks }
+        ensures marked { self.new.marked ≡ self.old.chunks }
+    {
+        settle(&mut self.pieces, Keep::Now);
+    }
+
+    /// The chunks as they were at the mark: their bounds, numbers and marks of change. It takes no
+    /// memory.
+    pub fn undo(&mut self)
+        ensures chunks { self.new.chunks ≡ self.old.marked }
+        ensures marked { self.new.marked ≡ self.old.marked }
+    {
+        settle(&mut self.pieces, Keep::Then);
+    }
+}
