@@ -10,20 +10,12 @@ const FRONT: &[u8] = b"\0\0\0\x01\0\x02\0\0\0\x01\x06\x01\0\0\0\x07Michael\0\0\0
 /// Decodes so many records, each from bytes of its own. The entries that are read.
 pub fn entries_decoded(alloc: Global, count: u32) -> Result<u64, Fault> {
     let mut read: u64 = 0;
-    for bytes in &records_of(alloc, count)? {
+    for number in 0..count {
+        let bytes = record_of(alloc, number)?;
         let record = decode(alloc, bytes.as_slice())?;
         read = read.wrapping_add(record.entries.len() as u64);
     }
     Ok(read)
-}
-
-/// The bytes of so many records.
-fn records_of(alloc: Global, count: u32) -> Result<Vec<Vec<u8>>, AllocError> {
-    let mut records = Vec::new(alloc);
-    for number in 0..count {
-        records.push(record_of(alloc, number)?)?;
-    }
-    Ok(records)
 }
 
 /// The bytes of the record with this number as its last value.
