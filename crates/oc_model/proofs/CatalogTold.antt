@@ -18,7 +18,7 @@ use Rattle.oc_model.proofs.Told.{all_both, counted_told, kind_told}
 
 -- ---- names, fields and classes
 
-name_told : (t u rest more : List ℕ) → name_bytes t ++ rest ≡ name_bytes u ++ more → (t ≡ u) × (rest ≡ more)
+pub name_told : (t u rest more : List ℕ) → name_bytes t ++ rest ≡ name_bytes u ++ more → (t ≡ u) × (rest ≡ more)
 name_told t u rest more e = fronts_same t u rest more (first_same (length t) (length u) (t ++ rest) (u ++ more) e) (rest_same (length t) (length u) (t ++ rest) (u ++ more) e)
 
 abbrev flags : Bool → Bool → ℕ
@@ -30,7 +30,7 @@ flags_back true false = (refl, refl)
 flags_back false true = (refl, refl)
 flags_back false false = (refl, refl)
 
-flags_told : (a b c d : Bool) → flags a b ≡ flags c d → (a ≡ c) × (b ≡ d)
+pub flags_told : (a b c d : Bool) → flags a b ≡ flags c d → (a ≡ c) × (b ≡ d)
 flags_told a b c d e =
     let f = flags_back a b in
     let g = flags_back c d in
@@ -39,7 +39,7 @@ flags_told a b c d e =
 abbrev is_field : FieldDef → Bool
 is_field f = is_word f.id
 
-field_told : Tells (λ f. IsTrue (is_field f)) field_bytes
+pub field_told : Tells (λ f. IsTrue (is_field f)) field_bytes
 field_told f g rest more p q e =
     let ids = word_same f.id g.id (field_flags f ∷ kind_tag f.kind ∷ name_bytes f.name ++ rest) (field_flags g ∷ kind_tag g.kind ∷ name_bytes g.name ++ more) (ltb-true f.id (2 ^ 32) p) (ltb-true g.id (2 ^ 32) q) e in
     let flags = flags_told f.current f.indexed g.current g.indexed (first_same (field_flags f) (field_flags g) _ _ ids.1) in
@@ -57,7 +57,7 @@ has_fields c = list_all is_field c.fields
 abbrev is_class : ClassDef → Bool
 is_class c = is_word c.parent && (has_few c && has_fields c)
 
-class_told : Tells (λ c. IsTrue (is_class c)) class_bytes
+pub class_told : Tells (λ c. IsTrue (is_class c)) class_bytes
 class_told c d rest more p q e =
     let a = and_parts (is_word c.parent) (has_few c && has_fields c) p in
     let b = and_parts (is_word d.parent) (has_few d && has_fields d) q in
@@ -72,13 +72,13 @@ class_told c d rest more p q e =
 
 -- ---- lists
 
-word_told : Tells (λ n. IsTrue (is_word n)) (to_be_bytes w32)
+pub word_told : Tells (λ n. IsTrue (is_word n)) (to_be_bytes w32)
 word_told m n rest more p q e = word_same m n rest more (ltb-true m (2 ^ 32) p) (ltb-true n (2 ^ 32) q) e
 
-numbers_told : Tells (λ (ns : List ℕ). IsTrue (is_word (length ns)) × IsTrue (list_all is_word ns)) (counted w32 (to_be_bytes w32))
+pub numbers_told : Tells (λ (ns : List ℕ). IsTrue (is_word (length ns)) × IsTrue (list_all is_word ns)) (counted w32 (to_be_bytes w32))
 numbers_told = counted_told w32 (λ n. IsTrue (is_word n)) word_told is_word (to_be_bytes w32) word_told
 
-list_told : Tells (λ l. IsTrue (is_list l)) list_bytes
+pub list_told : Tells (λ l. IsTrue (is_list l)) list_bytes
 list_told k l rest more p q e =
     let a = and_parts _ _ p in
     let b = and_parts _ _ q in
@@ -110,7 +110,7 @@ id_small id next few h = let below = ltb-true id next (and_parts (nat_le 1 id) (
 count_small : (n : ℕ) → nat_le n 1000 ≡ true → nat_lt n (2 ^ 16) ≡ true
 count_small n h = let few = leb-true n 1000 h in lt-ltb n (2 ^ 16) (omega arith)
 
-classes_small : (s : Schema) → keeps_rules s ≡ true → (length s.classes < 2 ^ 16) × IsTrue (list_all is_class s.classes) × (s.next_field < 2 ^ 32)
+pub classes_small : (s : Schema) → keeps_rules s ≡ true → (length s.classes < 2 ^ 16) × IsTrue (list_all is_class s.classes) × (s.next_field < 2 ^ 32)
 classes_small s h =
     let rules = rules_kept s h in
     let limits = limits_kept s rules.within in

@@ -9,7 +9,7 @@ pub mod Meeting
 pub mod Parts
 pub mod MapLaws
 mod Candidates
-mod CatalogTold
+pub mod CatalogTold
 mod Conversions
 mod Decimals
 mod Fitting
@@ -23,7 +23,7 @@ pub mod Rules
 pub mod SchemaLaws
 mod Nodes
 mod StateWalks
-mod Told
+pub mod Told
 mod States
 mod Spellable
 mod Written

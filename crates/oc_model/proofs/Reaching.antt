@@ -36,12 +36,12 @@ is_equal Less h = cc
 is_equal Equal h = refl
 is_equal Greater h = cc
 
-same_node : (x y : Node) → eq_by_cmp node_cmp x y ≡ true → x ≡ y
+pub same_node : (x y : Node) → eq_by_cmp node_cmp x y ≡ true → x ≡ y
 same_node x y h = exact_nodes x y (is_equal _ h)
 
 -- ---- tables
 
-entry_of_put : (k : Node) (v : ℕ) (t : Table) (p : Node × ℕ) → IsOneOf p (put node_cmp k v t) → (p ≡ (k, v)) ⊎ IsOneOf p t
+pub entry_of_put : (k : Node) (v : ℕ) (t : Table) (p : Node × ℕ) → IsOneOf p (put node_cmp k v t) → (p ≡ (k, v)) ⊎ IsOneOf p t
 entry_of_put k v [] p h = elim h [ inl e ↦ inl e | inr n ↦ absurd n ]
 entry_of_put k v (e ∷ t) p h =
     (elim (node_cmp k e.0) as (λ o. node_cmp k e.0 ≡ o → IsOneOf p (by_order o ((k, v) ∷ e ∷ t) ((e.0, v) ∷ t) (e ∷ put node_cmp k v t)) → (p ≡ (k, v)) ⊎ IsOneOf p (e ∷ t)) [
@@ -53,7 +53,7 @@ entry_of_put k v (e ∷ t) p h =
 not_none : (k : ℕ) → None ≡ Some k → ⊥
 not_none k e = cc
 
-found_entry : (x : Node) (k : ℕ) (t : Table) → find node_cmp x t ≡ Some k → IsOneOf (x, k) t
+pub found_entry : (x : Node) (k : ℕ) (t : Table) → find node_cmp x t ≡ Some k → IsOneOf (x, k) t
 found_entry x k [] h = absurd (not_none k h)
 found_entry x k (e ∷ t) h =
     (elim (eq_by_cmp node_cmp x e.0) as (λ b. eq_by_cmp node_cmp x e.0 ≡ b → cond b (Some e.1) (find node_cmp x t) ≡ Some k → IsOneOf (x, k) (e ∷ t)) [
@@ -62,13 +62,13 @@ found_entry x k (e ∷ t) h =
     ]) refl h
 
 -- what is found under a node, as a budget
-budget-put : (k : Node) (v : ℕ) (t : Table) (q : Node) → budget (put node_cmp k v t) q ≡ cond (eq_by_cmp node_cmp q k) v (budget t q)
+pub budget-put : (k : Node) (v : ℕ) (t : Table) (q : Node) → budget (put node_cmp k v t) q ≡ cond (eq_by_cmp node_cmp q k) v (budget t q)
 budget-put k v t q =
     ap (λ o. unwrap_or o 0) (find-put node_cmp nodes_total q k v t)
     ∙ elim (eq_by_cmp node_cmp q k) as (λ b. unwrap_or (cond b (Some v) (find node_cmp q t)) 0 ≡ cond b v (budget t q)) [ true ↦ refl | false ↦ refl ]
 
 -- a raise lowers no budget
-raised-keeps : (t : Table) (e : Node × ℕ) (q : Node) → budget t q ≤ budget (raised t e) q
+pub raised-keeps : (t : Table) (e : Node × ℕ) (q : Node) → budget t q ≤ budget (raised t e) q
 raised-keeps t e q =
     (elim (nat_lt (budget t e.0) e.1) as (λ b. nat_lt (budget t e.0) e.1 ≡ b → budget t q ≤ budget (cond b (put node_cmp e.0 e.1 t) t) q) [
       | true ↦ λ c. subst (λ n. budget t q ≤ n) (sym (budget-put e.0 e.1 t q))
@@ -79,22 +79,22 @@ raised-keeps t e q =
       | false ↦ λ c. omega arith
     ]) refl
 
-self_tied : (x : Node) → eq_by_cmp node_cmp x x ≡ true
+pub self_tied : (x : Node) → eq_by_cmp node_cmp x x ≡ true
 self_tied x = ap is_eq (tied_itself nodes_total x)
 
 -- a raise raises its own node
-raised-at : (t : Table) (e : Node × ℕ) → e.1 ≤ budget (raised t e) e.0
+pub raised-at : (t : Table) (e : Node × ℕ) → e.1 ≤ budget (raised t e) e.0
 raised-at t e =
     (elim (nat_lt (budget t e.0) e.1) as (λ b. nat_lt (budget t e.0) e.1 ≡ b → e.1 ≤ budget (cond b (put node_cmp e.0 e.1 t) t) e.0) [
       | true ↦ λ c. subst (λ n. e.1 ≤ n) (sym (budget-put e.0 e.1 t e.0 ∙ ap (λ b. cond b e.1 (budget t e.0)) (self_tied e.0))) (omega arith)
       | false ↦ λ c. ltb-false _ _ c
     ]) refl
 
-rounds-keep : (es : Table) (t : Table) (q : Node) → budget t q ≤ budget (fold raised t es) q
+pub rounds-keep : (es : Table) (t : Table) (q : Node) → budget t q ≤ budget (fold raised t es) q
 rounds-keep [] t q = omega arith
 rounds-keep (e ∷ es) t q = let a : budget t q ≤ budget (raised t e) q = raised-keeps t e q in let b : budget (raised t e) q ≤ budget (fold raised (raised t e) es) q = rounds-keep es (raised t e) q in omega arith
 
-rounds-at : (es : Table) (t : Table) (e : Node × ℕ) → IsOneOf e es → e.1 ≤ budget (fold raised t es) e.0
+pub rounds-at : (es : Table) (t : Table) (e : Node × ℕ) → IsOneOf e es → e.1 ≤ budget (fold raised t es) e.0
 rounds-at [] t e h = absurd h
 rounds-at (f ∷ es) t e h =
     elim h as (λ _. e.1 ≤ budget (fold raised (raised t f) es) e.0) [
@@ -103,20 +103,20 @@ rounds-at (f ∷ es) t e h =
     ]
 
 -- a budget that isn't 0 is found
-known_budget : (t : Table) (x : Node) → 1 ≤ budget t x → find node_cmp x t ≡ Some (budget t x)
+pub known_budget : (t : Table) (x : Node) → 1 ≤ budget t x → find node_cmp x t ≡ Some (budget t x)
 known_budget t x h =
     (elim (find node_cmp x t) as (λ o. 1 ≤ unwrap_or o 0 → o ≡ Some (unwrap_or o 0)) [ None ↦ λ h. absurd (omega arith) | Some k ↦ λ h. refl ]) h
 
 -- ---- each entry arrives
 
 module _ (w : Walk) (root : Node) (depth : ℕ) where
-  Sound : Table → Type 0
+  pub Sound : Table → Type 0
   Sound t = (x : Node) (k : ℕ) → IsOneOf (x, k) t → (1 ≤ k) × Arrives w root depth x k
 
   Offered : Table → Type 0
   Offered es = (x : Node) (k : ℕ) → IsOneOf (x, k) es → Arrives w root depth x k
 
-  sound_raised : (t : Table) (e : Node × ℕ) → Sound t → Arrives w root depth e.0 e.1 → Sound (raised t e)
+  pub sound_raised : (t : Table) (e : Node × ℕ) → Sound t → Arrives w root depth e.0 e.1 → Sound (raised t e)
   unfolding Sound
   sound_raised t e s a x k h =
       (elim (nat_lt (budget t e.0) e.1) as (λ b. nat_lt (budget t e.0) e.1 ≡ b → IsOneOf (x, k) (cond b (put node_cmp e.0 e.1 t) t) → (1 ≤ k) × Arrives w root depth x k) [
@@ -155,19 +155,19 @@ module _ (w : Walk) (root : Node) (depth : ℕ) where
   first : Table
   first = raised [] (root, w.arrive root depth)
 
-  sound_first : Sound first
+  pub sound_first : Sound first
   unfolding first Sound
   sound_first = sound_raised [] (root, w.arrive root depth) (λ x k h. absurd h) (begins refl refl)
 
   -- ---- nothing arrives with more
 
   module _ (l : IsLawful w) (small : depth ≤ 65535) where
-    arrives_small : (x : Node) (k : ℕ) → Arrives w root depth x k → k ≤ 65535
+    pub arrives_small : (x : Node) (k : ℕ) → Arrives w root depth x k → k ≤ 65535
     arrives_small x k (begins p q) = subst (λ n. n ≤ 65535) (sym q) (l.arrive_small root depth small)
     arrives_small y k (goes_on {x = x} {j = j} a one i q) =
         subst (λ n. n ≤ 65535) (sym q) (l.arrive_small y (w.hand x j) (l.hand_small x j one (arrives_small x j a)))
 
-    budget_small : (t : Table) → Sound t → (x : Node) → budget t x ≤ 65535
+    pub budget_small : (t : Table) → Sound t → (x : Node) → budget t x ≤ 65535
     unfolding Sound
     budget_small t s x =
         (elim (find node_cmp x t) as (λ o. find node_cmp x t ≡ o → unwrap_or o 0 ≤ 65535) [
@@ -175,12 +175,12 @@ module _ (w : Walk) (root : Node) (depth : ℕ) where
           | Some k ↦ λ e. arrives_small x k (s x k (found_entry x k t e)).1
         ]) refl
 
-    closed : (t : Table) → is_settled w t ≡ true → (x y : Node) (k : ℕ) → IsOneOf (x, k) t → IsOneOf y (w.next x) → w.arrive y (w.hand x k) ≤ budget t y
+    pub closed : (t : Table) → is_settled w t ≡ true → (x y : Node) (k : ℕ) → IsOneOf (x, k) t → IsOneOf y (w.next x) → w.arrive y (w.hand x k) ≤ budget t y
     closed t h x y k i j =
         leb-true _ _ (all_pass (λ (e : Node × ℕ). nat_le e.1 (budget t e.0)) (y, w.arrive y (w.hand x k)) (flat_map (handed w) t) h
         (to_flat_map (handed w) (y, w.arrive y (w.hand x k)) (x, k) t i (to_map (λ z. (z, w.arrive z (w.hand x k))) y (w.next x) j)))
 
-    greatest : (t : Table) → Sound t → is_settled w t ≡ true → w.arrive root depth ≤ budget t root → (x : Node) (k : ℕ) → Arrives w root depth x k → k ≤ budget t x
+    pub greatest : (t : Table) → Sound t → is_settled w t ≡ true → w.arrive root depth ≤ budget t root → (x : Node) (k : ℕ) → Arrives w root depth x k → k ≤ budget t x
     greatest t s h r x k (begins p q) = subst (λ n. n ≤ budget t x) (sym q) (subst (λ z. w.arrive root depth ≤ budget t z) (sym p) r)
     greatest t s h r y k (goes_on {x = x} {j = j} a one i q) =
         let below : j ≤ budget t x = greatest t s h r x j a in
@@ -197,17 +197,17 @@ module _ (w : Walk) (root : Node) (depth : ℕ) where
     total t [] = 0
     total t (x ∷ xs) = budget t x + total t xs
 
-    total_small : (t : Table) → Sound t → (xs : List Node) → total t xs ≤ 65535 * length xs
+    pub total_small : (t : Table) → Sound t → (xs : List Node) → total t xs ≤ 65535 * length xs
     unfolding total
     total_small t s [] = omega arith
     total_small t s (x ∷ xs) = let a : budget t x ≤ 65535 = budget_small t s x in let b : total t xs ≤ 65535 * length xs = total_small t s xs in omega arith
 
-    total_keeps : (t u : Table) → ((x : Node) → budget t x ≤ budget u x) → (xs : List Node) → total t xs ≤ total u xs
+    pub total_keeps : (t u : Table) → ((x : Node) → budget t x ≤ budget u x) → (xs : List Node) → total t xs ≤ total u xs
     unfolding total
     total_keeps t u k [] = omega arith
     total_keeps t u k (x ∷ xs) = let a : budget t x ≤ budget u x = k x in let b : total t xs ≤ total u xs = total_keeps t u k xs in omega arith
 
-    total_rises : (t u : Table) → ((x : Node) → budget t x ≤ budget u x) → (y : Node) → budget t y < budget u y → (xs : List Node) → IsOneOf y xs → total t xs < total u xs
+    pub total_rises : (t u : Table) → ((x : Node) → budget t x ≤ budget u x) → (y : Node) → budget t y < budget u y → (xs : List Node) → IsOneOf y xs → total t xs < total u xs
     unfolding total
     total_rises t u k y lt [] i = absurd i
     total_rises t u k y lt (x ∷ xs) i =
@@ -246,7 +246,7 @@ module _ (w : Walk) (root : Node) (depth : ℕ) where
 
   -- ---- the order
 
-  sorted_rounds : (es t : Table) → T (is_sorted node_cmp t) → T (is_sorted node_cmp (fold raised t es))
+  pub sorted_rounds : (es t : Table) → T (is_sorted node_cmp t) → T (is_sorted node_cmp (fold raised t es))
   sorted_rounds [] t h = h
   sorted_rounds (e ∷ es) t h = sorted_rounds es (raised t e)
       (elim (nat_lt (budget t e.0) e.1) as (λ b. T (is_sorted node_cmp (cond b (put node_cmp e.0 e.1 t) t))) [ true ↦ is_sorted-put node_cmp nodes_total e.0 e.1 t h | false ↦ h ])
@@ -295,7 +295,7 @@ found_more {t = t} {u = u} a b x k e =
     let j : g.0 ≡ k = omega arith in
     g.1 ∙ ap (λ n. Some n) j
 
-found_alike : {w : Walk} {root : Node} {depth : ℕ} {t u : Table} → IsBest w root depth t → IsBest w root depth u → (x : Node) → find node_cmp x t ≡ find node_cmp x u
+pub found_alike : {w : Walk} {root : Node} {depth : ℕ} {t u : Table} → IsBest w root depth t → IsBest w root depth u → (x : Node) → find node_cmp x t ≡ find node_cmp x u
 found_alike {t = t} {u = u} a b x =
     (elim (find node_cmp x t) as (λ o. find node_cmp x t ≡ o → o ≡ find node_cmp x u) [
       | Some k ↦ λ e. sym (found_more a b x k e)

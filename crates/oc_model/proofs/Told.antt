@@ -63,7 +63,7 @@ low_16 (pos n) h = omega arith
 low_16 (negsuc n) h = omega arith
 
 -- a number of so many bits and a sign is told by that many bytes
-signed_told : (k bits : ℕ) → ((n : ℤ) → IsWithin (2 ^ bits) n → cast_unsigned w128 n % 256 ^ k ≡ code (2 ^ bits + 2 ^ bits) n)
+pub signed_told : (k bits : ℕ) → ((n : ℤ) → IsWithin (2 ^ bits) n → cast_unsigned w128 n % 256 ^ k ≡ code (2 ^ bits + 2 ^ bits) n)
     → Tells (λ (n : ℤ). IsTrue (fits_signed bits n)) (λ n. bytes_high_first k (cast_unsigned w128 n))
 signed_told k bits low m n rest more f g e =
     let r = low_same k (cast_unsigned w128 m) (cast_unsigned w128 n) rest more e in
@@ -71,7 +71,7 @@ signed_told k bits low m n rest more f g e =
     let q = within bits n g in
     (code_same (2 ^ bits) m n p q (sym (low m p) ∙ r.0 ∙ low n q), r.1)
 
-unsigned_told : Tells (λ (n : ℤ). IsTrue (fits_unsigned 64 n)) (λ n. bytes_high_first 8 (cast_unsigned w128 n))
+pub unsigned_told : Tells (λ (n : ℤ). IsTrue (fits_unsigned 64 n)) (λ n. bytes_high_first 8 (cast_unsigned w128 n))
 unsigned_told (pos m) (pos n) rest more f g e =
     let r = low_same 8 m n rest more e in
     let same = r.0 in
@@ -99,18 +99,18 @@ unsigned_atom m n rest more f g e = let r = unsigned_told m n rest more (and_par
 apart : {P : Type 0} (rest more : List ℕ) → 0 ∷ rest ≡ 1 ∷ more → P
 apart rest more e = let q = first_same {X = ℕ} 0 1 rest more e in absurd (omega arith)
 
-truth_told : (x y : Bool) (rest more : List ℕ) → (if x then 1 else 0) ∷ rest ≡ (if y then 1 else 0) ∷ more → (atom.Bool x ≡ atom.Bool y) × (rest ≡ more)
+pub truth_told : (x y : Bool) (rest more : List ℕ) → (if x then 1 else 0) ∷ rest ≡ (if y then 1 else 0) ∷ more → (atom.Bool x ≡ atom.Bool y) × (rest ≡ more)
 truth_told true true rest more e = (refl, rest_same 1 1 rest more e)
 truth_told false false rest more e = (refl, rest_same 0 0 rest more e)
 truth_told true false rest more e = apart more rest (sym e)
 truth_told false true rest more e = apart rest more e
 
-text_told : (t u rest more : List ℕ) → length t < 2 ^ 32 → length u < 2 ^ 32 → bytes_high_first 4 (length t) ++ (t ++ rest) ≡ bytes_high_first 4 (length u) ++ (u ++ more) → (t ≡ u) × (rest ≡ more)
+pub text_told : (t u rest more : List ℕ) → length t < 2 ^ 32 → length u < 2 ^ 32 → bytes_high_first 4 (length t) ++ (t ++ rest) ≡ bytes_high_first 4 (length u) ++ (u ++ more) → (t ≡ u) × (rest ≡ more)
 text_told t u rest more a b e =
     let w = word_same (length t) (length u) (t ++ rest) (u ++ more) a b e in
     fronts_same t u rest more w.0 w.1
 
-texts_told : (t u : Option (List ℕ)) (rest more : List ℕ) → IsTrue (is_small_atom (atom.Text t)) → IsTrue (is_small_atom (atom.Text u))
+pub texts_told : (t u : Option (List ℕ)) (rest more : List ℕ) → IsTrue (is_small_atom (atom.Text t)) → IsTrue (is_small_atom (atom.Text u))
     → atom_bytes base.Text (atom.Text t) ++ rest ≡ atom_bytes base.Text (atom.Text u) ++ more → (atom.Text t ≡ atom.Text u) × (rest ≡ more)
 texts_told None None rest more f g e = (refl, rest_same 0 0 rest more e)
 texts_told None (Some u) rest more f g e = apart _ _ e
@@ -119,7 +119,7 @@ texts_told (Some t) (Some u) rest more f g e =
     let r = text_told t u rest more (ltb-true (length t) (2 ^ 32) f) (ltb-true (length u) (2 ^ 32) g) (rest_same 1 1 _ _ e) in
     (ap (λ v. atom.Text (Some v)) r.0, r.1)
 
-ref_told : (m n : ℕ) (rest more : List ℕ) → IsTrue (nat_le m 2147483646) → IsTrue (nat_le n 2147483646) → bytes_high_first 4 m ++ rest ≡ bytes_high_first 4 n ++ more → (atom.Ref m ≡ atom.Ref n) × (rest ≡ more)
+pub ref_told : (m n : ℕ) (rest more : List ℕ) → IsTrue (nat_le m 2147483646) → IsTrue (nat_le n 2147483646) → bytes_high_first 4 m ++ rest ≡ bytes_high_first 4 n ++ more → (atom.Ref m ≡ atom.Ref n) × (rest ≡ more)
 ref_told m n rest more f g e =
     let a = leb-true m 2147483646 f in
     let b = leb-true n 2147483646 g in
@@ -148,7 +148,7 @@ all_both p q (x ∷ xs) a b =
     and_from _ _ (and_from _ _ c.0 d.0) (all_both p q xs c.1 d.1)
 
 -- lists of one length, whose elements are told
-list_told : {X : Type 0} (test : X → Bool) (bytes : X → List ℕ) → Tells (λ x. IsTrue (test x)) bytes → (xs ys : List X) (rest more : List ℕ) → length xs ≡ length ys
+pub list_told : {X : Type 0} (test : X → Bool) (bytes : X → List ℕ) → Tells (λ x. IsTrue (test x)) bytes → (xs ys : List X) (rest more : List ℕ) → length xs ≡ length ys
     → IsTrue (list_all test xs) → IsTrue (list_all test ys) → flat_map bytes xs ++ rest ≡ flat_map bytes ys ++ more → (xs ≡ ys) × (rest ≡ more)
 list_told test bytes each [] [] rest more len f g e = (refl, e)
 list_told test bytes each [] (y ∷ ys) rest more len f g e = absurd (omega arith)
@@ -174,7 +174,7 @@ counted_told w P count test bytes each xs ys rest more f g e =
 abbrev is_value : Kind → Value → Bool
 is_value k v = fits k v && is_small v
 
-items_told : (b : Base) (xs ys : List Atom) (rest more : List ℕ) → IsTrue (list_all (fits_base b) xs && (nat_lt (length xs) (2 ^ 32) && list_all is_small_atom xs))
+pub items_told : (b : Base) (xs ys : List Atom) (rest more : List ℕ) → IsTrue (list_all (fits_base b) xs && (nat_lt (length xs) (2 ^ 32) && list_all is_small_atom xs))
     → IsTrue (list_all (fits_base b) ys && (nat_lt (length ys) (2 ^ 32) && list_all is_small_atom ys))
     → 1 ∷ counted w32 (atom_bytes b) xs ++ rest ≡ 1 ∷ counted w32 (atom_bytes b) ys ++ more → (value.Many (Some xs) ≡ value.Many (Some ys)) × (rest ≡ more)
 items_told b xs ys rest more f g e =
@@ -208,7 +208,7 @@ id_is_word n h = ltb-true n (2 ^ 32) (and_parts _ _ h).1
 abbrev is_entry : Entry → Bool
 is_entry e = is_id e.id && (entry_fits e && is_small e.value)
 
-entry_told : Tells (λ x. IsTrue (is_entry x)) entry_bytes
+pub entry_told : Tells (λ x. IsTrue (is_entry x)) entry_bytes
 entry_told x y rest more f g e =
     let p = and_parts (is_id x.id) (is_value x.kind x.value) f in
     let q = and_parts (is_id y.id) (is_value y.kind y.value) g in
@@ -236,7 +236,7 @@ told_alone P bytes told x y p q e = (told x y [] [] p q (ap (λ l. l ++ []) e)).
 
 -- ---- entries of lists
 
-extent_told : Tells (λ (e : ℕ × ℕ). IsTrue (is_extent e)) (λ e. extent_bytes e.0 e.1)
+pub extent_told : Tells (λ (e : ℕ × ℕ). IsTrue (is_extent e)) (λ e. extent_bytes e.0 e.1)
 extent_told x y rest more f g e =
     let p = and_parts _ _ f in
     let q = and_parts _ _ g in
@@ -244,7 +244,7 @@ extent_told x y rest more f g e =
     let b = word_same x.1 y.1 rest more (ltb-true x.1 (2 ^ 32) p.1) (ltb-true y.1 (2 ^ 32) q.1) a.1 in
     (λ i. (a.0 i, b.0 i), b.1)
 
-indexed_told : (b : Base) → Tells (λ (e : Atom × ℕ). IsTrue (is_indexed b e)) (λ e. index_bytes b e.0 e.1)
+pub indexed_told : (b : Base) → Tells (λ (e : Atom × ℕ). IsTrue (is_indexed b e)) (λ e. index_bytes b e.0 e.1)
 indexed_told b x y rest more f g e =
     let p = and_parts (is_atom b x.0) (is_word x.1) f in
     let q = and_parts (is_atom b y.0) (is_word y.1) g in
@@ -253,7 +253,7 @@ indexed_told b x y rest more f g e =
     let n = word_same x.1 y.1 rest more (ltb-true x.1 (2 ^ 32) p.1) (ltb-true y.1 (2 ^ 32) q.1) k.1 in
     (λ i. (k.0 i, n.0 i), n.1)
 
-segment_told : {X : Type 0} (test : X → Bool) (bytes : X → List ℕ) → Tells (λ x. IsTrue (test x)) bytes → Tells (IsSegment test) (segment_bytes bytes)
+pub segment_told : {X : Type 0} (test : X → Bool) (bytes : X → List ℕ) → Tells (λ x. IsTrue (test x)) bytes → Tells (IsSegment test) (segment_bytes bytes)
 segment_told test bytes each xs ys rest more f g e =
     let a = leb-true (length xs) 65535 f.few in
     let b = leb-true (length ys) 65535 g.few in
