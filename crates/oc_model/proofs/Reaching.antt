@@ -152,7 +152,7 @@ module _ (w : Walk) (root : Node) (depth : ℕ) where
   sound_settle (suc n) true t s = s
   sound_settle (suc n) false t s = sound_settle n (is_settled w (round w t)) (round w t) (sound_round t s)
 
-  first : Table
+  pub first : Table
   first = raised [] (root, w.arrive root depth)
 
   pub sound_first : Sound first
