@@ -1,5 +1,5 @@
 -- Free parts are given by their blocks.
-use Rattle.std.proofs.Common.{◌≡◌, ℕ, suc, ◌<◌, ◌≤◌, true, cond, List, [], ◌∷◌, length, sym, ap, ap₂, subst, inl, inr, refl, arith}
+use Rattle.std.proofs.Common.{◌≡◌, ℕ, suc, ◌+◌, ◌<◌, ◌≤◌, Bool, true, false, cond, List, [], ◌∷◌, length, sym, ap, ap₂, subst, inl, inr, refl, arith}
 use Rattle.std.proofs.lemmas.Bool.{cases_lt}
 use Rattle.std.proofs.lemmas.Bool.Decides.{nat_tests}
 use Rattle.std.proofs.lemmas.List.Sums.{sum_by-cons}
@@ -67,3 +67,22 @@ by_blocks (x ∷ xs) (y ∷ ys) free_x free_y same =
     let rest : (k : ℕ) → free_at xs k ≡ free_at ys k = λ k.
     omega (arith, sum_by-cons (λ p. cond (has_block k p) 1 0) x xs, sum_by-cons (λ p. cond (has_block k p) 1 0) y ys, same k, ap {B = ℕ} (λ (p : Part). cond (has_block k p) 1 0) first) in
     ap₂ (λ p ps. p ∷ ps) first (by_blocks xs ys (rest_free x xs free_x) (rest_free y ys free_y) rest)
+
+-- a block is free once
+pub free_once : (parts : List Part) → AreFree parts → (k : ℕ) → free_at parts k ≤ 1
+free_once [] free k = omega arith
+free_once (p ∷ ps) free k =
+    let rest = free_once ps (rest_free p ps free) k in
+    let more = sum_by-cons (λ p. cond (has_block k p) 1 0) p ps in
+    elim (cases_lt 0 (free_at ps k)) [
+      | inl some ↦
+          let one = found (has_block k) ps no_part some in
+          let apart = free.apart 0 (suc one.0) no_part (omega arith) (omega (arith, one.1)) in
+          let not : has_block k p ≡ false = grind (arith, nat_tests, one.2, apart) in
+          omega (arith, rest, more, ap {B = ℕ} (λ b. cond b 1 0) not)
+      | inr none ↦ go (has_block k p) refl (omega (arith, none)) more
+    ]
+  where
+    go : (b : Bool) → has_block k p ≡ b → free_at ps k ≡ 0 → free_at (p ∷ ps) k ≡ cond (has_block k p) 1 0 + free_at ps k → free_at (p ∷ ps) k ≤ 1
+    go true e none more = omega (arith, none, more, ap {B = ℕ} (λ b. cond b 1 0) e)
+    go false e none more = omega (arith, none, more, ap {B = ℕ} (λ b. cond b 1 0) e)

@@ -1,0 +1,4 @@
+pub mod Counting
+pub mod Few
+pub mod Placed
+pub mod Placing
