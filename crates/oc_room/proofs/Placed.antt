@@ -1,6 +1,6 @@
 -- Things placed one after another.
-use Rattle.std.proofs.Common.{◌≡◌, ◌∙◌, ℕ, suc, ◌+◌, ◌-◌, ◌<◌, ◌≤◌, Bool, true, false, cond, leb, min, List, [], ◌∷◌, ◌++◌, length, take, drop, get_or, Option, Some, None, sym, ap, subst, inl, inr, refl, arith}
-use Rattle.std.specs.List.{All, fold}
+use Rattle.std.proofs.Common.{◌≡◌, ◌∙◌, ℕ, ◌+◌, ◌<◌, ◌≤◌, true, false, cond, leb, List, [], ◌∷◌, ◌++◌, length, take, drop, get_or, Some, None, ap, subst, inl, inr, refl, arith}
+use Rattle.std.specs.List.{All}
 use Rattle.std.proofs.lemmas.Bool.{cases_lt}
 use Rattle.std.proofs.lemmas.Bool.Decides.{nat_tests}
 use Rattle.std.proofs.lemmas.List.{drop_more}
@@ -9,13 +9,13 @@ use Rattle.std.proofs.lemmas.List.Elements.{All-append}
 use Rattle.std.specs.Prelude.{IsErrOf, Err}
 use Rattle.oc_layout.specs.declared.cells.Cell.{Cell}
 use Rattle.oc_layout.specs.Layout.{blocks}
-use Rattle.oc_model.specs.Space.{Part, Shortage}
+use Rattle.oc_model.specs.Space.{Part}
 use Rattle.oc_free.specs.FreeParts.{AreFree, free_at}
 use Rattle.oc_free.proofs.ByBlocks.{by_blocks, free_once}
 use Rattle.oc_free.proofs.Edits.{counted}
 use Rattle.oc_room.specs.declared.fault.RoomFault.TheVariants as room_fault
-use Rattle.oc_room.specs.Rooms.{Space, Placed, IsSame, owns, owners, open_at, unplaced, place_next, placed, finds_room, lacking, LiesIn, LiesApart}
-use Rattle.oc_room.proofs.Counting.{no_cell, some_blocks}
+use Rattle.oc_room.specs.Rooms.{Space, Placed, owns, owners, open_at, place_next, placed, finds_room, lacking, LiesIn, LiesApart}
+use Rattle.oc_room.proofs.Counting.{some_blocks}
 use Rattle.oc_room.proofs.Few.{few}
 
 -- ---- the first that finds no room
@@ -63,11 +63,11 @@ pub lies_apart : (s : Space) (end : ℕ) (c : Cell) → 1 ≤ blocks s.unit c.le
 lies_apart s end c some le none (inl inside) = elim (cases_lt end (c.at + blocks s.unit c.len)) [
   | inr ends ↦ inl ends
   | inl behind ↦ elim (cases_lt c.at end) [
-      | inr begins ↦ inr begins
-      | inl before ↦
-          let owned : owns s.unit end c ≡ true = grind (arith, nat_tests, behind, before) in
-          absurd (omega (arith, inside end owned, none end (omega arith)))
-    ]
+    | inr begins ↦ inr begins
+    | inl before ↦
+        let owned : owns s.unit end c ≡ true = grind (arith, nat_tests, behind, before) in
+        absurd (omega (arith, inside end owned, none end (omega arith)))
+  ]
 ]
 lies_apart s end c some le none (inr at_end) = inr (omega (arith, at_end, le))
 

@@ -65,7 +65,6 @@ finds_room unit limit p len = is_nameable len && (is_some (best_fit p.parts (blo
 
 -- the first of these lengths that finds no room when those before it are placed: the blocks that it needs, and those of the file before it
 unfoldable pub lacking : ℕ → ℕ → Placed → List ℕ → Option Shortage
-unfolding best_fit
 lacking unit limit p [] = None
 lacking unit limit p (len ∷ lens) =
     if finds_room unit limit p len then lacking unit limit (place_next unit p len) lens else Some (record { need = blocks unit len; length = p.end })

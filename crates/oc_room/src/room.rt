@@ -1,4 +1,4 @@
-ghost use Rattle.std.specs.Prelude.{◌≡◌, ◌<◌, ◌≤◌, ◌+◌, ℕ, List, [], ◌∷◌, ◌++◌, is_some, length, true, Some, None, All, IfSome, IfNone, IfOk, OnOk, OnErr, IsErrOf,  if◌then◌else◌, nat_le};
+ghost use Rattle.std.specs.Prelude.{◌≡◌, ◌<◌, ◌≤◌, ◌+◌, ℕ, List, [], ◌∷◌, ◌++◌, is_some, length, true, Some, None, All, IfSome, IfNone, IfOk, OnOk, OnErr, IsErrOf, if◌then◌else◌, ◌&&◌, nat_le, nat_lt};
 ghost use Rattle.oc_layout.specs.Layout.{blocks};
 ghost use Rattle.oc_free.specs.FreeParts.{AreFree, all_blocks, free_at};
 ghost use Rattle.oc_room.specs.Rooms.{owns, owners, open_at, unplaced, place_next, placed, finds_room, lacking, IsSame, LiesIn, LiesApart};
@@ -38,7 +38,7 @@ impl Model for Room {
       within : (k : ℕ) → r.end ≤ k → free_at r.free.parts k ≡ 0;
       unit : 0 < r.unit;
       end : r.end ≤ r.limit;
-      limit : r.limit ≤ 2147483647
+      limit : r.limit ≤ 2147483647;
     } };
 }
 
@@ -123,7 +123,12 @@ impl Room {
     /// `Full` comes exactly where one of them finds no room, and tells the first. After a fault everything is as
     /// before, and nothing is placed. So many others can be given back without memory before and after, and
     /// after `Ok` all that was placed as well.
-    pub fn place(&mut self, alloc: Global, lengths: &[u64], others: u32) -> Result<Vec<Cell>, RoomFault>
+    pub fn place(
+        &mut self,
+        alloc: Global,
+        lengths: &[u64],
+        others: u32,
+    ) -> Result<Vec<Cell>, RoomFault>
         requires some { All (λ len. 1 ≤ len) lengths.now }
         requires others { others ≤ self.old.spare }
         requires few { others ≤ self.old.limit }
@@ -154,6 +159,36 @@ impl Room {
             let _room = cells.push(cell);
         }
         Ok(cells)
+    }
+
+    // Makes the blocks from the end of the file up to this one free, and ends there.
+    pub(crate) fn free_to(&mut self, at: u32) -> Result<(), AllocError>
+        requires begins { self.old.end ≤ at }
+        requires limit { at ≤ self.old.limit }
+        ensures parts { OnOk result ((k : ℕ) →
+            free_at self.new.parts k ≡ free_at self.old.parts k + (if nat_le self.old.end k && nat_lt k at then 1 else 0)) }
+        ensures end { OnOk result (self.new.end ≡ at) }
+        ensures unit { self.new.unit ≡ self.old.unit }
+        ensures limit { self.new.limit ≡ self.old.limit }
+    {
+        self.free.reserve(1)?;
+        if self.end < at {
+            self.free.release(self.end, at - self.end);
+        }
+        self.end = at;
+        Ok(())
+    }
+
+    // Takes the blocks from the end of the file up to this one, and ends there.
+    pub(crate) fn grow_to(&mut self, at: u32)
+        requires begins { self.old.end ≤ at }
+        requires limit { at ≤ self.old.limit }
+        ensures parts { self.new.parts ≡ self.old.parts }
+        ensures end { self.new.end ≡ at }
+        ensures unit { self.new.unit ≡ self.old.unit }
+        ensures limit { self.new.limit ≡ self.old.limit }
+    {
+        self.end = at;
     }
 
     // The fault that so many bytes find no room.

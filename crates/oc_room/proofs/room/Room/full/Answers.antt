@@ -1,6 +1,4 @@
-use Rattle.std.proofs.Common.{◌≡◌, ◌∙◌, ap, subst}
-use Rattle.oc_layout.specs.Layout.{blocks}
-use Rattle.oc_room.specs.Rooms.{Space}
+use Rattle.std.proofs.Common.{◌∙◌, ap}
 use Rattle.oc_room.specs.declared.fault.RoomFault.TheVariants as RoomFault
 use Rattle.oc_room.proofs.Counting.{rounded_up}
 use Rattle.oc_room.proofs.room.Room.full.Goals as goal

@@ -1,13 +1,11 @@
-use Rattle.std.proofs.Common.{◌≡◌, ◌∙◌, ◌<◌, ◌≤◌, ◌+◌, ◌++◌, ◌∷◌, [], ℕ, Bool, true, false, is_ok, is_some, List, Option, Some, None, length, take, drop, get_or, cond, min, ap, ap₂, sym, subst, subst₂, refl, arith}
-use Rattle.std.specs.List.{All}
-use Rattle.std.proofs.lemmas.Bool.Decides.{nat_tests}
-use Rattle.std.proofs.lemmas.List.{take_all, drop_all}
+use Rattle.std.proofs.Common.{◌≡◌, ◌∙◌, ◌<◌, ◌≤◌, ◌+◌, ◌++◌, ◌∷◌, [], ℕ, true, false, is_ok, List, Some, length, get_or, cond, ap, ap₂, sym, subst, subst₂, refl, arith}
+use Rattle.std.proofs.lemmas.List.{drop_all}
 use Rattle.oc_layout.specs.declared.cells.Cell.{Cell}
 use Rattle.oc_layout.specs.Layout.{blocks}
 use Rattle.oc_free.specs.FreeParts.{AreFree, free_at}
-use Rattle.oc_room.specs.Rooms.{Space, Placed, owns, owners, open_at, unplaced, place_next, placed, finds_room, lacking, LiesIn, LiesApart}
+use Rattle.oc_room.specs.Rooms.{Space, Placed, owns, owners, open_at, unplaced, place_next, finds_room, lacking, LiesApart}
 use Rattle.oc_room.specs.declared.fault.RoomFault.TheVariants as RoomFault
-use Rattle.oc_room.proofs.Counting.{no_cell, some_blocks}
+use Rattle.oc_room.proofs.Counting.{some_blocks}
 use Rattle.oc_room.proofs.Placed.{placed_more, lacking_more, lacking_here, lacking_end, full_parts, same_error, owners_behind, all_behind, lies_apart, once_below, few_cells, as_before}
 use Rattle.oc_room.proofs.room.Room.place.Goals as goal
 

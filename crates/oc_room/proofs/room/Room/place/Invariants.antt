@@ -1,4 +1,4 @@
-use Rattle.std.proofs.Common.{◌≡◌, ◌<◌, ◌≤◌, ◌+◌, ℕ, min, take, drop, length}
+use Rattle.std.proofs.Common.{◌≡◌, ◌≤◌, ◌+◌, ℕ, min, take, drop, length}
 use Rattle.std.specs.List.{All}
 use Rattle.oc_free.specs.FreeParts.{free_at}
 use Rattle.oc_room.specs.Rooms.{owners, open_at, unplaced, placed, lacking, LiesApart}
@@ -19,5 +19,5 @@ invariant-loop-len l = record {
   lies : All (LiesApart l.fn.self.unit l.fn.self.end) l.cells.items;
   counted : length l.cells.items ≡ l.len-index;
   room : l.others + min (length l.lengths) l.fn.self.limit ≤ l.self.spare;
-  capacity : length l.lengths ≤ l.cells.cap
+  capacity : length l.lengths ≤ l.cells.cap;
 }

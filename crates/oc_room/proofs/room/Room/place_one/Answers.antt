@@ -1,11 +1,9 @@
-use Rattle.std.proofs.Common.{◌≡◌, ◌∙◌, ◌≤◌, ◌<◌, ◌+◌, ◌++◌, ◌∷◌, [], ℕ, List, Option, Some, None, true, is_some, ap, ap₂, cond, leb, option_map, sym, subst, inl, refl, arith}
+use Rattle.std.proofs.Common.{◌≡◌, ◌∙◌, ◌≤◌, ◌+◌, ◌++◌, ◌∷◌, [], ℕ, List, Some, None, true, ap, ap₂, cond, leb, option_map, sym, subst, inl, arith}
 use Rattle.std.proofs.lemmas.Bool.Decides.{nat_tests}
-use Rattle.std.specs.Prelude.{IfSome}
-use Rattle.oc_layout.specs.declared.cells.Cell.{Cell}
 use Rattle.oc_layout.specs.Layout.{blocks}
 use Rattle.oc_model.specs.Space.{Part, best_fit, without}
 use Rattle.oc_free.specs.FreeParts.{Free, free_at, has_block}
-use Rattle.oc_room.specs.Rooms.{Space, Placed, owns, place_next, finds_room}
+use Rattle.oc_room.specs.Rooms.{Space, Placed}
 use Rattle.oc_room.proofs.Placing.{appended, next_in_part, room_in_part, room_at_end, no_room_for_long, still_within}
 use Rattle.oc_room.proofs.room.Room.place_one.Goals as goal
 

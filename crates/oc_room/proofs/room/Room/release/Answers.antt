@@ -1,7 +1,6 @@
-use Rattle.std.proofs.Common.{◌≡◌, ◌<◌, ◌≤◌, ◌+◌, ℕ, true, cond, sym, ap, subst, inl, inr, arith}
+use Rattle.std.proofs.Common.{◌≡◌, true, sym, subst, arith}
 use Rattle.std.proofs.lemmas.Bool.Decides.{nat_tests}
-use Rattle.oc_model.specs.Space.{Part}
-use Rattle.oc_free.specs.FreeParts.{free_at, has_block}
+use Rattle.oc_free.specs.FreeParts.{free_at}
 use Rattle.oc_room.specs.Rooms.{Space, owns}
 use Rattle.oc_room.proofs.Placing.{became_free}
 use Rattle.oc_room.proofs.room.Room.release.Goals as goal

@@ -1,6 +1,3 @@
-use Rattle.std.proofs.Common.{◌≡◌, sym, subst, List, ℕ, ◌≤◌}
-use Rattle.oc_model.specs.Space.{Part}
-use Rattle.oc_free.specs.FreeParts.{free_at}
 use Rattle.oc_room.proofs.room.Room.reserve.Goals as goal
 
 pub invariant_of-self : goal.invariant_of-self

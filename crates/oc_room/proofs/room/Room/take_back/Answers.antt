@@ -1,9 +1,7 @@
-use Rattle.std.proofs.Common.{◌≡◌, ◌∙◌, true, ◌<◌, ◌≤◌, ◌+◌, ℕ, List, length, take, get_or, cond, ap, sym, subst, arith}
-use Rattle.std.proofs.lemmas.Bool.Decides.{nat_tests}
-use Rattle.std.proofs.lemmas.List.{get_or_default, take_all}
-use Rattle.oc_layout.specs.declared.cells.Cell.{Cell}
+use Rattle.std.proofs.Common.{◌≡◌, ◌∙◌, true, ◌≤◌, ◌+◌, ℕ, take, get_or, cond, ap, sym, subst, arith}
+use Rattle.std.proofs.lemmas.List.{take_all}
 use Rattle.oc_free.specs.FreeParts.{free_at}
-use Rattle.oc_room.specs.Rooms.{Space, owns, owners, LiesApart}
+use Rattle.oc_room.specs.Rooms.{Space, owns, owners}
 use Rattle.oc_room.proofs.Counting.{no_cell, still_taken, given_below, given_behind, skipped_below}
 use Rattle.oc_room.proofs.room.Room.take_back.Goals as goal
 use Rattle.oc_room.proofs.room.Room.take_back.Goals.{then-cell-end, else-cell-end}

@@ -1,5 +1,5 @@
 use Rattle.std.proofs.Common.{◌≡◌, ◌<◌, ◌≤◌, ◌+◌, ℕ, take}
-use Rattle.oc_free.specs.FreeParts.{AreFree, free_at}
+use Rattle.oc_free.specs.FreeParts.{free_at}
 use Rattle.oc_room.specs.Rooms.{owners}
 use Rattle.oc_room.proofs.room.Room.take_back.Given as goal
 
@@ -11,5 +11,5 @@ invariant-loop-cell l = record {
   end : l.self.end ≡ l.fn.self.end;
   unit : l.self.unit ≡ l.fn.self.unit;
   limit : l.self.limit ≡ l.fn.self.limit;
-  spare : l.fn.self.spare ≤ l.self.spare + l.cell-index
+  spare : l.fn.self.spare ≤ l.self.spare + l.cell-index;
 }
