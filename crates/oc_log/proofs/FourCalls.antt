@@ -41,6 +41,7 @@ module _ (h : Header) (ws : List CellWrite) (d : Disk) (len : h.log.len ≡ 4 + 
   from_prepared : (e : Disk) → e.bytes ≡ staged h ws d.bytes → e.said ≡ d.said → IsSynced e → (image said : List ℕ) → HasNone h e image said → HasNone h d image said
   from_prepared e is spoke synced image said r = record {
     told = r.told ∙ spoke;
+    closed = r.closed;
     no_shorter = omega (arith, r.no_shorter, ap length synced.bytes, ap length is, long, is_disk.no_shorter);
     no_longer = omega (arith, r.no_longer, synced.top, ap length is, long, is_disk.no_longer);
     same = λ k fixed clear.
@@ -58,6 +59,7 @@ module _ (h : Header) (ws : List CellWrite) (d : Disk) (len : h.log.len ≡ 4 + 
   all_in e spoke size same image said r = record {
     told = r.told ∙ spoke;
     size = omega (arith, r.size, size, long);
+    log = r.log;
     same = λ k lt clear.
         r.same k (omega (arith, lt, size, long)) clear ∙ same k clear
         ∙ put_same_in ws d.bytes (staged h ws d.bytes) k may.targets.within within (λ out. stays k clear);

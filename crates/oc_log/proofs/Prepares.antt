@@ -75,6 +75,7 @@ module _ (h : Header) (ws : List CellWrite) (d : Disk) (is_disk : IsDisk d) (may
       let stands = settled_closed h image (λ opened. may.closed (sym gate ∙ opened)) in
       record {
         told = im.told.1 ∙ ap (λ (l : List ℕ). stop.said ++ l) (nothing im.told.0 stop.piece is.piece) ∙ append-nil stop.said ∙ is.told;
+        closed = λ opened. may.closed (sym gate ∙ opened);
         no_shorter = omega (arith, ap length stands, im.no_shorter, ap length is.synced);
         no_longer = omega (arith, ap length stands, im.no_longer, is.top);
         same = λ k fixed clear.
@@ -157,6 +158,7 @@ module _ (h : Header) (ws : List CellWrite) (d : Disk) (is_disk : IsDisk d) (may
         let stands = settled_closed h second.bytes (λ opened. may.closed (sym the_gate ∙ opened)) in
         record {
           told = refl;
+          closed = λ opened. may.closed (sym the_gate ∙ opened);
           no_shorter = omega (arith, ap length stands, long_second, is_disk.no_shorter);
           no_longer = omega (arith, ap length stands, long_second, is_disk.no_longer);
           same = λ k fixed clear. ap (λ (l : List ℕ). get_or l k 0) stands ∙ stays k clear.0 clear.1;

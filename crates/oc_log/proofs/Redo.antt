@@ -40,14 +40,34 @@ module _ (h : Header) (b : List ℕ) (cell : first_cell (slice 32 8 b) ≡ h.log
       ∙ is
 
 -- an image of a synced file is the file
-pub moments_of : (h : Header) (d e : Disk) → IsSynced d → Looks d e → LeavesOnly d e (Recovers h d)
-moments_of h d e synced looks = weaken d e (Recovers h d) (IsImage (now d)) looks.moments (λ image said im.
-    let is = only_bytes d synced image said im in
+-- an open log that is found is there
+found_log : (h : Header) (d : Disk) → MayRecover h d → (ws : List CellWrite) → open_writes h d.bytes ≡ Some ws → get_or d.bytes 64 0 ≡ 1 → HasLog h ws d.bytes
+found_log h d may ws is gate = elim (cases_lt (length d.bytes) (log_at h + h.log.len)) [
+  | inl far ↦ absurd (clash (sym (open_none h d.bytes may.cell far) ∙ is))
+  | inr inside ↦ record {
+      long = may.long;
+      cell = may.cell;
+      inside = inside;
+      log = sym (open_is h d.bytes may.cell gate inside (read_writes (is_wide h) (slice (log_at h) h.log.len d.bytes)) refl) ∙ is;
+      targets = may.targets ws is;
+    }
+]
+  where
+    clash : None ≡ Some ws → ⊥
+    clash e = cc
+
+pub moments_of : (h : Header) (d e : Disk) → MayRecover h d → Looks d e → LeavesOnly d e (Recovers h d)
+moments_of h d e may looks = weaken d e (Recovers h d) (IsImage (now d)) looks.moments (λ image said im.
+    let is = only_bytes d may.synced image said im in
     record {
       told = is.1;
       size = ap (λ (l : List ℕ). length (settled h l)) is.0;
       same = λ k clear. ap (λ (l : List ℕ). get_or (settled h l) k 0) is.0;
+      log = λ ws found gate. subst (λ (l : List ℕ). HasLog h ws l) (sym is.0) (found_log h d may ws found (subst (λ (l : List ℕ). get_or l 64 0 ≡ 1) is.0 gate));
     })
+
+some_same : (vs ws : List CellWrite) → Some vs ≡ Some ws → vs ≡ ws
+some_same vs ws e = cc
 
 module _ (h : Header) (ws : List CellWrite) (d e : Disk) (may : MayRecover h d) (is_open : open_writes h d.bytes ≡ Some ws) (looks : Looks d e) where
   stands : settled h d.bytes ≡ put_cells ws d.bytes
@@ -82,13 +102,14 @@ module _ (h : Header) (ws : List CellWrite) (d e : Disk) (may : MayRecover h d) 
         record {
           told = r.told ∙ spoke;
           size = whole;
+          log = λ others found gate. subst (λ (l : List CellWrite). HasLog h l image) (some_same ws others (sym is_open ∙ found)) (r.log gate);
           same = λ k clear. past_end (settled h image) (settled h d.bytes) k whole
               (λ lt. r.same k (omega (arith, lt, size, ap length stands, put_size)) clear ∙ same k ∙ ap (λ (l : List ℕ). get_or l k 0) (sym stands));
         }
 
     pub applies : (f : Disk) → LeavesOnly e f (HasAll h ws e) → LeavesOnly d f (Recovers h d)
     applies f run =
-        then_runs d e f (Recovers h d) (HasAll h ws e) (Recovers h d) (moments_of h d e may.synced looks) run (λ image said r. r)
+        then_runs d e f (Recovers h d) (HasAll h ws e) (Recovers h d) (moments_of h d e may looks) run (λ image said r. r)
         (from_all e looks.said (ap length looks.bytes) (λ k. ap (λ (l : List ℕ). get_or (put_cells ws l) k 0) looks.bytes))
 
     pub closes : (f g : Disk) → LeavesOnly e f (HasAll h ws e) → IsDisk f → f.bytes ≡ put_cells ws e.bytes → LeavesOnly f g (HasAll h ws f) → LeavesOnly d g (Recovers h d)

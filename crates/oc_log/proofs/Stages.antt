@@ -104,6 +104,7 @@ module _ (h : Header) (ws : List CellWrite) (d : Disk) (has : HasLog h ws d.byte
       record {
         told = told;
         size = omega (arith, ap length is, length-put ws image has_image.targets.within, size, has.inside);
+        log = λ g. has_image;
         same = λ k lt clear. ap (λ (l : List ℕ). get_or l k 0) is ∙ put_same ws d.bytes image k size has.targets.within (same k clear);
       }
 
@@ -125,6 +126,7 @@ module _ (h : Header) (ws : List CellWrite) (d : Disk) (has : HasLog h ws d.byte
         let is = settled_closed h image closed in
         record {
           told = t.told;
+          closed = closed;
           no_shorter = omega (arith, ap length is, t.size, ap length synced.bytes);
           no_longer = omega (arith, ap length is, t.size, synced.top);
           same = λ k fixed clear. ap (λ (l : List ℕ). get_or l k 0) is ∙ t.same k clear.2;
@@ -145,6 +147,7 @@ module _ (h : Header) (ws : List CellWrite) (d : Disk) (has : HasLog h ws d.byte
         record {
           told = t.told;
           size = omega (arith, ap length is, t.size, has.inside);
+          log = λ g. absurd (closed g);
           same = λ k lt clear. ap (λ (l : List ℕ). get_or l k 0) is ∙ t.same k clear.2 ∙ sym (done k);
         }
   ]
