@@ -1,0 +1,4 @@
+pub mod Bytes
+pub mod Ordered
+pub mod Ranges
+pub mod Tables
