@@ -1,4 +1,9 @@
 pub mod Bytes
+pub mod Chained
+pub mod Changes
+pub mod Listings
+pub mod Lookups
 pub mod Ordered
 pub mod Ranges
 pub mod Tables
+pub mod Walks

@@ -1,5 +1,5 @@
 -- Pages of pointers: which number of which space has which cell.
-use Rattle.std.specs.Prelude.{◌≡◌, ◌<◌, ◌≤◌, ℕ, ◌+◌, ◌-◌, ◌*◌, ◌==◌, ◌&&◌, not, nat_lt, nat_le, Bool, true, false, if◌then◌else◌, List, [], ◌∷◌, map, replicate, set, slice_index_or, filter, find, flat_map, Option, Some, None, option_map, All, AllPairs}
+use Rattle.std.specs.Prelude.{◌≡◌, ◌<◌, ◌≤◌, ℕ, ◌+◌, ◌-◌, ◌*◌, ◌==◌, ◌&&◌, not, nat_lt, nat_le, Bool, true, false, if◌then◌else◌, List, [], ◌∷◌, map, replicate, set, slice_index_or, filter, find, flat_map, Option, Some, None, option_map, Contains}
 use Rattle.std.specs.Option.{option_flatten}
 use Rattle.oc_layout.specs.declared.cells.Cell.{Cell}
 use Rattle.oc_layout.specs.declared.cells.Space.{Space}
@@ -86,6 +86,18 @@ things_in p = place_of p ∷ filter (λ c. not (is_empty c)) p.cells
 -- the places of all pages, and those that all pointers name
 abbrev pub things_of : List Page → List Cell
 things_of pages = flat_map things_in pages
+
+-- the number has a pointer in this page
+pub record IsPointed (space : Space) (number : ℕ) (p : Page) : Type 0 where
+  pub holds : holds space number p ≡ true
+  pub some : is_empty (cell_in p number) ≡ false
+
+-- no page is of this index, which one of the numbers has
+pub record IsMissing (pages : List Page) (space : Space) (numbers : List ℕ) (index : ℕ) : Type 0 where
+  pub number : ℕ
+  pub among : Contains numbers number
+  pub has : has_number index number ≡ true
+  pub none : page_of pages space index ≡ None
 
 -- no later page is of the same space and index
 abbrev pub IsOther : Page → Page → Type 0

@@ -6,7 +6,7 @@ use Rattle.oc_layout.specs.declared.cells.Space.{Space}
 use Rattle.oc_layout.specs.declared.cells.Space.TheVariants.{Objects, System}
 use Rattle.oc_pages.specs.declared.page.Page.{Page}
 use Rattle.oc_pages.specs.declared.places.Places.{Places}
-use Rattle.oc_pages.specs.Pages.{no_cell, is_page, has_number, is_empty, cell_in, empty_page}
+use Rattle.oc_pages.specs.Pages.{no_cell, is_page, has_number, is_empty, cell_in, empty_page, first_of}
 
 -- the place kept for this space and index
 abbrev pub place_in : Places → Space → ℕ → Option ℕ
@@ -42,3 +42,9 @@ chained loaded kept = reverse (drop loaded kept) ++ take loaded kept
 -- the number of each pointer has 32 bits
 abbrev pub IsNamed : Page → Type 0
 IsNamed p = (number : ℕ) → has_number p.index number ≡ true → is_empty (cell_in p number) ≡ false → number < 2 ^ 32
+
+-- the chain begins at this cell, and its pages are in order
+pub record IsOrdered (first : Cell) (loaded : ℕ) (kept : List Page) : Type 0 where
+  pub within : loaded ≤ length kept
+  pub first_is : first ≡ first_of (chained loaded kept)
+  pub named : All IsNamed kept

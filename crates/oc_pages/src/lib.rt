@@ -6,9 +6,13 @@
 #![tactic(auto)]
 
 mod fault;
+mod listing;
+mod loading;
 mod order;
 mod page;
+mod pages;
 mod places;
 mod table;
 
 pub use fault::PagesFault;
+pub use pages::Pages;

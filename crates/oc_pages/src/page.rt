@@ -14,7 +14,9 @@ pub const PAGE: u32 = 1024;
 
 const CELL: usize = 8;
 const CELLS: usize = 126;
-const NUMBERS: u32 = 126;
+/// The numbers of a page.
+pub const NUMBERS: u32 = 126;
+
 const FIRST_CELL: usize = 16;
 const LAST_ADDRESS: u32 = 2_147_483_647;
 const LAST_NUMBER: u64 = 2_147_483_646;

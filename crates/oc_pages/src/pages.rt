@@ -1,9 +1,8 @@
 use crate::PagesFault;
+use crate::listing::{put_numbers, put_things};
 use crate::loading::walk;
 use crate::order::ascending;
-use crate::page::{
-    NO_CELL, PAGE, Page, empty_page, index_of, is_empty, number_of, slot_of, write_page,
-};
+use crate::page::{NO_CELL, PAGE, empty_page, index_of, is_empty, slot_of, write_page};
 use crate::table::PageTable;
 use oc_host::Host;
 use oc_layout::{Cell, Space};
@@ -107,8 +106,8 @@ impl Pages {
     pub fn pointer(&self, space: Space, number: u32) -> Option<Cell>
         ensures { result ≡ pointer_of self.now.pages space number }
     {
-        let page = self.page_holding(space, number)?;
-        let cell = page.cells[slot_of(number)];
+        let place = self.table.holding(space, number)?;
+        let cell = self.table.page(place).cells[slot_of(number)];
         if is_empty(cell) { None } else { Some(cell) }
     }
 
@@ -116,8 +115,8 @@ impl Pages {
     pub fn target(&self, space: Space, number: u32) -> Option<u64>
         ensures { result ≡ target_of self.now.unit self.now.pages space number }
     {
-        let page = self.page_holding(space, number)?;
-        let start = page.at as u64 * self.unit as u64;
+        let place = self.table.holding(space, number)?;
+        let start = self.table.page(place).at as u64 * self.unit as u64;
         Some(start + FIRST_CELL + CELL * slot_of(number) as u64)
     }
 
@@ -177,7 +176,7 @@ impl Pages {
         ensures distinct { AllPairs IsOther self.new.pages }
         ensures spare { self.new.spare ≡ self.old.spare }
     {
-        if let Some(place) = self.place_holding(space, number) {
+        if let Some(place) = self.table.holding(space, number) {
             self.table.set(place, slot_of(number), cell);
         }
     }
@@ -225,17 +224,5 @@ impl Pages {
         }
         let once = ascending(alloc, numbers)?;
         Ok(once)
-    }
-
-    // Where the page that holds a number is kept.
-    fn place_holding(&self, space: Space, number: u32) -> Option<usize>
-        ensures { MatchOption result
-            (page_holding self.now.pages space number ≡ None)
-            (λ place. (place < length self.table.pages)) }
-    {
-        if number == 0 {
-            return None;
-        }
-        self.table.place(space, index_of(number))
     }
 }

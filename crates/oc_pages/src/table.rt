@@ -1,5 +1,5 @@
 // Pages in the order in which they came, each found by its space and index.
-use crate::page::{NO_CELL, Page, PAGE};
+use crate::page::{Page, index_of};
 use crate::places::Places;
 use oc_layout::{Cell, Space};
 use std::alloc::{AllocError, Global};
@@ -32,7 +32,7 @@ impl Model for PageTable {
 impl PageTable {
     ghost use Rattle.std.specs.Prelude.{◌≡◌, ◌<◌, ◌≤◌, ◌^◌, ◌+◌, ℕ, true, false, [], ◌∷◌, ◌++◌, length, set, All, AllPairs, IfSome, IfNone, OnOk, option_map};
     ghost use Rattle.oc_pages.specs.declared.page.Page.{Page};
-    ghost use Rattle.oc_pages.specs.Pages.{is_page, IsOther};
+    ghost use Rattle.oc_pages.specs.Pages.{is_page, holds, IsOther};
     ghost use Rattle.oc_pages.specs.Places.{page_in};
 
     pub fn new(alloc: Global) -> PageTable
@@ -58,6 +58,21 @@ impl PageTable {
         ensures distinct { AllPairs IsOther self.now.pages }
     {
         self.places.place(space, index)
+    }
+
+    /// Where the page that holds a number is kept.
+    pub fn holding(&self, space: Space, number: u32) -> Option<usize>
+        ensures within { IfSome result (λ place. place < length self.now.pages) }
+        ensures some { IfSome result (λ place.
+            holds space number (page_in self.now.pages place) ≡ true) }
+        ensures number { IfSome result (λ place. 1 ≤ number) }
+        ensures none { IfNone result (All (λ p. holds space number p ≡ false) self.now.pages) }
+        ensures distinct { IfSome result (λ place. AllPairs IsOther self.now.pages) }
+    {
+        if number == 0 {
+            return None;
+        }
+        self.place(space, index_of(number))
     }
 
     pub fn page(&self, place: usize) -> &Page
