@@ -1,5 +1,5 @@
 -- What pages name, and which pages are missing.
-use Rattle.std.proofs.Common.{◌≡◌, ◌≢◌, ◌⊎◌, inl, inr, ⊎_elim, ℕ, zero, suc, ◌+◌, ◌-◌, ◌*◌, ◌<◌, ◌≤◌, Bool, true, false, List, [], ◌∷◌, ◌++◌, length, take, get_or, refl, sym, ◌∙◌, ap, subst, arith, append_assoc, append-nil, Option, Some, None}
+use Rattle.std.proofs.Common.{◌≡◌, ◌≢◌, ◌⊎◌, inl, inr, ⊎_elim, ℕ, zero, suc, ◌+◌, ◌-◌, ◌*◌, ◌<◌, ◌≤◌, ◌^◌, Bool, true, false, List, [], ◌∷◌, ◌++◌, length, take, get_or, refl, sym, ◌∙◌, ap, subst, arith, append_assoc, append-nil, Option, Some, None}
 use Rattle.std.specs.Prelude.{All, AllPairs, Contains, ◌↔◌, IsSome, find, filter, not}
 use Rattle.std.proofs.lemmas.Bool.{cases_lt, cases_Bool, cases_eq}
 use Rattle.std.proofs.lemmas.Bool.Decides.{nat_tests}
@@ -11,7 +11,7 @@ use Rattle.oc_layout.specs.declared.cells.Space.{Space}
 use Rattle.oc_pages.specs.declared.page.Page.{Page}
 use Rattle.oc_pages.specs.Order.{AreAscending}
 use Rattle.oc_pages.specs.Pages.{no_cell, is_empty, space_number, has_number, holds, slot_in, cell_in, pointer_in, page_of, page_holding, pointer_of, things_in, place_of, IsOther, IsPointed, IsMissing}
-use Rattle.oc_pages.specs.Places.{no_page, page_in, chained}
+use Rattle.oc_pages.specs.Places.{no_page, page_in, chained, IsNamed}
 use Rattle.oc_pages.proofs.Chained.{same_pages}
 use Rattle.oc_pages.proofs.Lookups.{pointer_found, in_none, in_some}
 use Rattle.oc_pages.proofs.Ranges.{within_is, is_within}
@@ -66,6 +66,15 @@ early_more space p k n before numbers same lt n_is some was number = (
           pointed = record { holds = grind (arith, nat_tests, same, has); some = ap (λ (j : ℕ). is_empty (get_or p.cells j no_cell)) slot_is ∙ some };
           below = omega (arith, slot_is);
         }
+
+-- the number of a pointer has 32 bits
+pub early_fits : (p : Page) (k : ℕ) → IsNamed p → k < 126 → is_empty (get_or p.cells k no_cell) ≡ false → p.index * 126 + k + 1 < 2 ^ 32
+early_fits p k named lt some =
+    let number = 126 * p.index + k + 1 in
+    let has = is_within p.index number (record { above = omega arith; below = omega (arith, lt) }) in
+    let slot : number - 126 * p.index - 1 ≡ k = omega arith in
+    let few = named number has (ap (λ (j : ℕ). is_empty (get_or p.cells j no_cell)) slot ∙ some) in
+    omega (arith, few)
 
 pub early_same : (space : Space) (p : Page) (k : ℕ) (before numbers : List ℕ) → is_empty (get_or p.cells k no_cell) ≡ true → EarlyNumbers space p k before numbers → EarlyNumbers space p (k + 1) before numbers
 early_same space p k before numbers none was number = (

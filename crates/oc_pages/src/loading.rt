@@ -24,6 +24,7 @@ pub fn walk<H: Host>(
     ensures chain { IfOk result (λ table. IsTrue H.tells →
         HasPages unit (H.disk host.old).bytes root table.pages) }
     ensures in_range { IfOk result (λ table. All IsInRange table.pages) }
+    ensures distinct { IfOk result (λ table. AllPairs IsOther table.pages) }
     ensures first { IfOk result (λ table. first_of table.pages ≡ root) }
     ensures no_page { IsErrOf result pages_fault.NotAPage → IsTrue H.tells →
         (pages : List Page) → HasPages unit (H.disk host.old).bytes root pages → ⊥ }
