@@ -59,7 +59,7 @@ distinct_chained n kept all = from_distinct (chained n kept) (IsDistinct-IsPermu
 
 -- ---- the page that a test finds
 
-find_none : (test : Page → Bool) (xs : List Page) → All (λ p. test p ≡ false) xs → find test xs ≡ None
+pub find_none : (test : Page → Bool) (xs : List Page) → All (λ p. test p ≡ false) xs → find test xs ≡ None
 find_none test [] none = refl
 find_none test (x ∷ xs) none = grind (arith, none zero x (omega arith), find_none test xs (λ k d lt. none (suc k) d (omega (arith, lt))))
 
@@ -144,7 +144,7 @@ chained_map f n kept =
     ∙ ap (λ (l : List Page). l ++ map f (take n kept)) (map-reverse f (drop n kept))
     ∙ sym (map-append f (reverse (drop n kept)) (take n kept))
 
-map_same : (f : Page → Page) (xs : List Page) → ((k : ℕ) → k < length xs → f (page_in xs k) ≡ page_in xs k) → map f xs ≡ xs
+pub map_same : (f : Page → Page) (xs : List Page) → ((k : ℕ) → k < length xs → f (page_in xs k) ≡ page_in xs k) → map f xs ≡ xs
 map_same f [] same = refl
 map_same f (x ∷ xs) same = λ i. same zero (omega arith) i ∷ map_same f xs (λ k lt. same (suc k) (omega (arith, lt))) i
 

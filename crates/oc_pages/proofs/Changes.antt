@@ -18,7 +18,7 @@ use Rattle.oc_pages.proofs.Ranges.{within_is}
 pub named_in_range : (kept : List Page) → All IsInRange kept → All IsNamed kept
 named_in_range kept all k d lt number has some = omega (arith, (all k d lt).numbers number has some)
 
-no_cells : (n k : ℕ) → get_or (replicate n no_cell) k no_cell ≡ no_cell
+pub no_cells : (n k : ℕ) → get_or (replicate n no_cell) k no_cell ≡ no_cell
 no_cells zero k = refl
 no_cells (suc n) zero = refl
 no_cells (suc n) (suc k) = no_cells n k
@@ -61,7 +61,7 @@ ordered_all root kept e all = record {
 
 -- ---- another cell for a number
 
-with_other : (space : Space) (number : ℕ) (cell : Cell) (p : Page) → holds space number p ≡ false → with_cell space number cell p ≡ p
+pub with_other : (space : Space) (number : ℕ) (cell : Cell) (p : Page) → holds space number p ≡ false → with_cell space number cell p ≡ p
 with_other space number cell p no_ = grind (arith, no_)
 
 pub with_held : (space : Space) (number : ℕ) (cell : Cell) (p : Page) → holds space number p ≡ true → with_cell space number cell p ≡ record p { cells = set p.cells (slot_in p number) cell }

@@ -132,7 +132,7 @@ among_more space kept k before numbers was step number = (
     on is = record { place = is.place; below = omega (arith, is.below); pointed = is.pointed }
 
 -- a page that is found is one of the pages
-found_is : (test : Page → Bool) (xs : List Page) (p : Page) → find test xs ≡ Some p → Contains xs p × (test p ≡ true)
+pub found_is : (test : Page → Bool) (xs : List Page) (p : Page) → find test xs ≡ Some p → Contains xs p × (test p ≡ true)
 found_is test [] p e = let no_way : ◌≡◌ {A = Option Page} None (Some p) = e in absurd (cc no_way)
 found_is test (x ∷ xs) p e = elim (cases_Bool (test x)) [
   | inl yes_ ↦

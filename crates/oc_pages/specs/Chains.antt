@@ -1,5 +1,5 @@
 -- The bytes of a page, and the chain of pages that an image has.
-use Rattle.std.specs.Prelude.{◌≡◌, ◌<◌, ◌≤◌, ◌^◌, ℕ, zero, suc, ◌+◌, ◌*◌, List, [], ◌∷◌, ◌++◌, length, take, drop, flat_map, All, AllPairs}
+use Rattle.std.specs.Prelude.{◌≡◌, ◌⊎◌, ◌<◌, ◌≤◌, ◌^◌, ℕ, zero, suc, ◌+◌, ◌*◌, List, [], ◌∷◌, ◌++◌, length, take, drop, slice_index, flat_map, All, AllPairs}
 use Rattle.std.specs.Int.{w32, to_be_bytes, from_be_bytes}
 use Rattle.oc_layout.specs.declared.cells.Cell.{Cell}
 use Rattle.oc_layout.specs.Layout.{cell_bytes, first_cell, FitsCell}
@@ -51,6 +51,15 @@ Leads unit image root (p ∷ ps) next = StandsAt unit image root p × Leads unit
 -- the image has a chain of these pages from the root cell on
 abbrev pub Chain : ℕ → List ℕ → Cell → List Page → Type 0
 Chain unit image root pages = Leads unit image root pages no_cell
+
+-- the two pages have no byte in common
+abbrev pub AreApart : ℕ → Page → Page → Type 0
+AreApart unit p q = (p.at * unit + 1024 ≤ q.at * unit) ⊎ (q.at * unit + 1024 ≤ p.at * unit)
+
+-- the page's bytes are the same in the other image
+pub record IsKept (unit : ℕ) (image other : List ℕ) (p : Page) : Type 0 where
+  pub inside : p.at * unit + 1024 ≤ length other
+  pub same : (k : ℕ) → p.at * unit ≤ k → k < p.at * unit + 1024 → slice_index other k ≡ slice_index image k
 
 -- and each is in range, and no two are of one space and index
 pub record HasPages (unit : ℕ) (image : List ℕ) (root : Cell) (pages : List Page) : Type 0 where

@@ -45,7 +45,8 @@ impl PageTable {
     }
 
     pub fn len(&self) -> usize
-        ensures { result ≡ length self.now.pages }
+        ensures len { result ≡ length self.now.pages }
+        ensures distinct { AllPairs IsOther self.now.pages }
     {
         self.kept.len()
     }
