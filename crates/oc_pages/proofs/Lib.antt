@@ -1,0 +1,12 @@
+pub mod Bytes
+pub mod ChainLaws
+pub mod Chained
+pub mod Changes
+pub mod Images
+pub mod Listings
+pub mod Lookups
+pub mod Ordered
+pub mod PointerLaws
+pub mod Ranges
+pub mod Tables
+pub mod Walks

@@ -1,0 +1,4 @@
+pub mod Chains
+pub mod Order
+pub mod Pages
+pub mod Places
