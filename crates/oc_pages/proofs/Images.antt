@@ -76,13 +76,13 @@ over_in at bytes b k le lt =
 
 -- ---- what is read from bytes that agree
 
-numbers_same : (b c : List ℕ) → ((k : ℕ) → k < 4 → get_or c k 0 ≡ get_or b k 0) → from_be_bytes w32 c ≡ from_be_bytes w32 b
+pub numbers_same : (b c : List ℕ) → ((k : ℕ) → k < 4 → get_or c k 0 ≡ get_or b k 0) → from_be_bytes w32 c ≡ from_be_bytes w32 b
 numbers_same b c same = omega (arith, same 0 (omega arith), same 1 (omega arith), same 2 (omega arith), same 3 (omega arith))
 
-behind : (n : ℕ) (b c : List ℕ) (k : ℕ) → get_or c (n + k) 0 ≡ get_or b (n + k) 0 → get_or (drop n c) k 0 ≡ get_or (drop n b) k 0
+pub behind : (n : ℕ) (b c : List ℕ) (k : ℕ) → get_or c (n + k) 0 ≡ get_or b (n + k) 0 → get_or (drop n c) k 0 ≡ get_or (drop n b) k 0
 behind n b c k same = get_or-drop n c k 0 ∙ same ∙ sym (get_or-drop n b k 0)
 
-first_same : (b c : List ℕ) → ((k : ℕ) → k < 8 → get_or c k 0 ≡ get_or b k 0) → first_cell c ≡ first_cell b
+pub first_same : (b c : List ℕ) → ((k : ℕ) → k < 8 → get_or c k 0 ≡ get_or b k 0) → first_cell c ≡ first_cell b
 first_same b c same i = record {
   at = numbers_same b c (λ k lt. same k (omega (arith, lt))) i;
   len = numbers_same (drop 4 b) (drop 4 c) (λ k lt. behind 4 b c k (same (4 + k) (omega (arith, lt)))) i;

@@ -145,10 +145,10 @@ found_is test (x ∷ xs) p e = elim (cases_Bool (test x)) [
       ((suc there.0.0, omega (arith, there.0.1), there.0.2), there.1)
 ]
 
-no_pointer : (pages : List Page) (space : Space) (number : ℕ) → page_holding pages space number ≡ None → pointer_of pages space number ≡ None
+pub no_pointer : (pages : List Page) (space : Space) (number : ℕ) → page_holding pages space number ≡ None → pointer_of pages space number ≡ None
 no_pointer pages space number e = grind (arith, e)
 
-its_pointer : (pages : List Page) (space : Space) (number : ℕ) (p : Page) → page_holding pages space number ≡ Some p → pointer_of pages space number ≡ pointer_in (cell_in p number)
+pub its_pointer : (pages : List Page) (space : Space) (number : ℕ) (p : Page) → page_holding pages space number ≡ Some p → pointer_of pages space number ≡ pointer_in (cell_in p number)
 its_pointer pages space number p e = grind (arith, e)
 
 -- the numbers that a page has a pointer of are those that have one along the chain

@@ -1,0 +1,4 @@
+pub mod Headers
+pub mod HeldGives
+pub mod OneMap
+pub mod Things
