@@ -1,4 +1,8 @@
+pub mod Apart
+pub mod Changed
+pub mod Committing
 pub mod Headers
 pub mod HeldGives
 pub mod OneMap
 pub mod Things
+pub mod Writes

@@ -6,6 +6,7 @@ use Rattle.oc_layout.specs.declared.cells.Header.{Header}
 use Rattle.oc_layout.specs.declared.cells.Space.{Space}
 use Rattle.oc_layout.specs.Layout.{unit_of, room_of, first_page_of, blocks}
 use Rattle.oc_layout.specs.Headers.{opening_bytes, fields, is_in_range}
+use Rattle.oc_host.specs.Disk.{Apart}
 use Rattle.oc_log.specs.Log.{put_cells, log_at}
 use Rattle.oc_log.specs.States.{HasLog}
 use Rattle.oc_pages.specs.declared.page.Page.{Page}
@@ -37,12 +38,17 @@ abbrev pub log_things : Header → List CellWrite → List Cell
 log_things h [] = []
 log_things h (w ∷ ws) = h.log ∷ []
 
+-- the first byte of the root cell
+abbrev pub root_place : Header → ℕ
+root_place h = if h.form == 2 then 48 else 16
+
+-- the byte is one of the header's, and neither of the log cell, nor of the root cell, nor the gate
+abbrev pub IsOwn : Header → ℕ → Type 0
+IsOwn h k = (k < 128) × Apart k 32 8 × Apart k 64 1 × Apart k (root_place h) 8
+
 -- the byte is the root cell's first, or the first of a pointer's cell
 abbrev pub IsTarget : Header → List Page → ℕ → Type 0
-IsTarget h pages target = (target ≡ root_at h) ⊎ ((space : Space) × (number : ℕ) × (target_of (unit_of h) pages space number ≡ Some target))
-  where
-    root_at : Header → ℕ
-    root_at h = if h.form == 2 then 48 else 16
+IsTarget h pages target = (target ≡ root_place h) ⊎ ((space : Space) × (number : ℕ) × (target_of (unit_of h) pages space number ≡ Some target))
 
 -- the thing has bytes, which lie in a file of this length
 pub record LiesIn (unit len : ℕ) (thing : Cell) : Type 0 where

@@ -1,5 +1,5 @@
 -- What a file holds of the committed side between two calls, and that no stop takes away.
-use Rattle.std.specs.Prelude.{◌≡◌, ◌≢◌, ◌<◌, ◌≤◌, ℕ, ◌+◌, ◌*◌, List, ◌∷◌, length, All}
+use Rattle.std.specs.Prelude.{◌≡◌, ◌≢◌, ◌⊎◌, ◌<◌, ◌≤◌, ℕ, ◌+◌, ◌*◌, List, ◌∷◌, length, All}
 use Rattle.oc_layout.specs.declared.cells.Cell.{Cell}
 use Rattle.oc_layout.specs.declared.cells.Header.{Header}
 use Rattle.oc_layout.specs.Layout.{unit_of, room_of, first_page_of, blocks}
@@ -14,6 +14,10 @@ use Rattle.oc_slots.specs.Forms.{Begins, LiesIn, header_cell}
 -- whatever a stop leaves, the thing's bytes are those that were synced
 abbrev pub IsHeld : ℕ → Disk → Cell → Type 0
 IsHeld unit d thing = (k : ℕ) → thing.at * unit ≤ k → k < thing.at * unit + thing.len → Fixed d k
+
+-- the thing has none of the n bytes from `at` on
+abbrev pub IsBeside : ℕ → ℕ → ℕ → Cell → Type 0
+IsBeside unit at n thing = (thing.at * unit + thing.len ≤ at) ⊎ (at + n ≤ thing.at * unit)
 
 -- The file begins with this header, whose gate is closed, and has these pages. They and their slots lie in it, no block is in two of them, and no stop takes a byte of them away.
 pub record Holds (h : Header) (pages : List Page) (d : Disk) : Type 0 where

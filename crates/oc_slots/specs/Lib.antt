@@ -1,3 +1,4 @@
+pub mod Commits
 pub mod Forms
 pub mod Held
 pub mod Maps

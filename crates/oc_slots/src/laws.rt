@@ -1,9 +1,40 @@
-// What holds of files of the form. The function does nothing.
-ghost use Rattle.std.specs.Prelude.{◌≡◌, ℕ, List};
+// What holds of files of the form. The functions do nothing.
+ghost use Rattle.std.specs.Prelude.{◌≡◌, ◌⊎◌, ◌≤◌, ◌+◌, ℕ, List, ◌∷◌, length, All};
+ghost use Rattle.oc_host.specs.Disk.{Disk, IsDisk, IsImage, now, writing, wrote};
+ghost use Rattle.oc_layout.specs.declared.cells.Header.{Header};
+ghost use Rattle.oc_layout.specs.declared.cells.Cell.{Cell};
+ghost use Rattle.oc_layout.specs.declared.cells.CellWrite.{CellWrite};
+ghost use Rattle.oc_log.specs.Log.{with_log, put_cells};
+ghost use Rattle.oc_log.specs.Stops.{NoneOrAll};
+ghost use Rattle.oc_slots.specs.Commits.{IsCommit};
+ghost use Rattle.oc_pages.specs.declared.page.Page.{Page};
 ghost use Rattle.oc_slots.specs.Maps.{SlotMap, Same};
-ghost use Rattle.oc_slots.specs.Forms.{Gives};
+ghost use Rattle.oc_slots.specs.Forms.{Gives, header_cell};
+ghost use Rattle.oc_slots.specs.Held.{IsBeside, Holds, map_of};
+ghost use Rattle.oc_layout.specs.Layout.{unit_of, room_of, blocks};
+ghost use Rattle.oc_pages.specs.Pages.{things_of};
 
 /// A file gives one map at most.
 pub fn laws_of_forms()
     ensures one_map { (image : List ℕ) (m n : SlotMap) → Gives image m → Gives image n → Same m n }
+{}
+
+/// Where a file holds its committed side, each file that a stop leaves gives that side's map. A write beside the
+/// header, the pages and the committed slots leaves it so, at each moment. While a commit's cells are put in by its log,
+/// each file that a stop leaves gives the old map or the new one.
+pub fn laws_of_stops()
+    ensures held { (header : Header) (pages : List Page) (disk : Disk) → Holds header pages disk →
+        (image said : List ℕ) → IsImage (now disk) image said → Gives image (map_of header pages disk.bytes) }
+    ensures beside { (header : Header) (pages : List Page) (disk : Disk) → Holds header pages disk →
+        (at : ℕ) (bytes : List ℕ) → at ≤ length disk.bytes →
+        blocks (unit_of header) (at + length bytes) ≤ room_of header →
+        All (IsBeside (unit_of header) at (length bytes)) (header_cell ∷ things_of pages) → IsDisk (wrote at bytes disk) →
+        Holds header pages (wrote at bytes disk)
+        × Same (map_of header pages (wrote at bytes disk).bytes) (map_of header pages disk.bytes)
+        × ((image said : List ℕ) → IsImage (writing at (length bytes) disk) image said → Gives image (map_of header pages disk.bytes)) }
+    ensures commit { (header : Header) (old new : List Page) (disk : Disk) → Holds header old disk →
+        (place : Cell) (cells : List CellWrite) → IsCommit header old new place cells disk →
+        (image said : List ℕ) → NoneOrAll (with_log header place) cells disk image said →
+        (said ≡ disk.said)
+        × (Gives image (map_of header old disk.bytes) ⊎ Gives image (map_of header new (put_cells cells disk.bytes))) }
 {}
