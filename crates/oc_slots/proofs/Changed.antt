@@ -1,18 +1,11 @@
 -- Headers of which the log cell, the gate or the root cell may differ.
-use Rattle.std.proofs.Common.{◌≡◌, ◌≢◌, ◌∙◌, ◌⊎◌, inl, inr, ℕ, ◌+◌, ◌-◌, ◌*◌, ◌<◌, ◌≤◌, Bool, true, false, List, [], ◌∷◌, length, get_or, sym, ap, subst, refl, arith}
-use Rattle.std.specs.Prelude.{All, ◌==◌, if◌then◌else◌}
+use Rattle.std.proofs.Common.{◌≡◌, ◌∙◌, ◌⊎◌, inl, inr, ℕ, ◌<◌, ◌≤◌, List, length, get_or, sym, ap, refl, arith}
+use Rattle.std.specs.Prelude.{◌==◌, if◌then◌else◌}
 use Rattle.std.proofs.lemmas.Bool.{cases_Bool}
-use Rattle.std.proofs.lemmas.Bool.Decides.{nat_tests}
-use Rattle.oc_layout.specs.declared.cells.Cell.{Cell}
-use Rattle.oc_layout.specs.declared.cells.CellWrite.{CellWrite}
 use Rattle.oc_layout.specs.declared.cells.Header.{Header}
-use Rattle.oc_layout.specs.Layout.{unit_of, room_of, is_wide, first_page_of, first_cell}
+use Rattle.oc_layout.specs.Layout.{unit_of, room_of, is_wide, first_page_of}
 use Rattle.oc_layout.specs.Headers.{fields, is_in_range}
-use Rattle.oc_host.specs.Disk.{Apart}
-use Rattle.oc_log.specs.Log.{slice, log_at}
-use Rattle.oc_log.specs.States.{HasLog}
 use Rattle.oc_log.proofs.Bytes.{slice_same}
-use Rattle.oc_pages.proofs.Images.{first_same}
 use Rattle.oc_slots.specs.Forms.{Begins, IsOwn, root_place}
 use Rattle.oc_slots.proofs.Headers.{number_same, cell_same}
 
@@ -20,16 +13,21 @@ root_at : (h : Header) → (root_place h ≡ 16) ⊎ (root_place h ≡ 48)
 root_at h = elim (cases_Bool (h.form == 2)) [ inl e ↦ inr (rw e refl) | inr e ↦ inl (rw e refl) ]
 
 own : (h : Header) (k : ℕ) → k < 128 → (k < 16) ⊎ ((24 ≤ k) × (k < 32)) ⊎ ((40 ≤ k) × (k < 48)) ⊎ ((56 ≤ k) × (k < 64)) ⊎ (65 ≤ k) → IsOwn h k
-own h k lt place = (lt, elim place [
-  | inl a ↦ inl (omega (arith, a))
-  | inr r ↦ elim r [ inl a ↦ inl (omega (arith, a.1)) | inr r ↦ inr (elim r [ inl a ↦ a.0 | inr r ↦ elim r [ inl a ↦ omega (arith, a.0) | inr a ↦ omega (arith, a) ] ]) ]
-], elim place [
-  | inl a ↦ inl (omega (arith, a))
-  | inr r ↦ elim r [ inl a ↦ inl (omega (arith, a.1)) | inr r ↦ elim r [ inl a ↦ inl (omega (arith, a.1)) | inr r ↦ elim r [ inl a ↦ inl a.1 | inr a ↦ inr a ] ] ]
-], elim (root_at h) [
-  | inl e ↦ elim place [ inl a ↦ inl (omega (arith, a, e)) | inr r ↦ inr (elim r [ inl a ↦ omega (arith, a.0, e) | inr r ↦ elim r [ inl a ↦ omega (arith, a.0, e) | inr r ↦ elim r [ inl a ↦ omega (arith, a.0, e) | inr a ↦ omega (arith, a, e) ] ] ]) ]
-  | inr e ↦ elim place [ inl a ↦ inl (omega (arith, a, e)) | inr r ↦ elim r [ inl a ↦ inl (omega (arith, a.1, e)) | inr r ↦ elim r [ inl a ↦ inl (omega (arith, a.1, e)) | inr r ↦ inr (elim r [ inl a ↦ omega (arith, a.0, e) | inr a ↦ omega (arith, a, e) ]) ] ] ]
-])
+own h k lt place = (
+  lt,
+  elim place [
+    | inl a ↦ inl (omega (arith, a))
+    | inr r ↦ elim r [ inl a ↦ inl (omega (arith, a.1)) | inr r ↦ inr (elim r [ inl a ↦ a.0 | inr r ↦ elim r [ inl a ↦ omega (arith, a.0) | inr a ↦ omega (arith, a) ] ]) ]
+  ],
+  elim place [
+    | inl a ↦ inl (omega (arith, a))
+    | inr r ↦ elim r [ inl a ↦ inl (omega (arith, a.1)) | inr r ↦ elim r [ inl a ↦ inl (omega (arith, a.1)) | inr r ↦ elim r [ inl a ↦ inl a.1 | inr a ↦ inr a ] ] ]
+  ],
+  elim (root_at h) [
+    | inl e ↦ elim place [ inl a ↦ inl (omega (arith, a, e)) | inr r ↦ inr (elim r [ inl a ↦ omega (arith, a.0, e) | inr r ↦ elim r [ inl a ↦ omega (arith, a.0, e) | inr r ↦ elim r [ inl a ↦ omega (arith, a.0, e) | inr a ↦ omega (arith, a, e) ] ] ]) ]
+    | inr e ↦ elim place [ inl a ↦ inl (omega (arith, a, e)) | inr r ↦ elim r [ inl a ↦ inl (omega (arith, a.1, e)) | inr r ↦ elim r [ inl a ↦ inl (omega (arith, a.1, e)) | inr r ↦ inr (elim r [ inl a ↦ omega (arith, a.0, e) | inr a ↦ omega (arith, a, e) ]) ] ] ]
+  ],
+)
 
 module _ (h : Header) (b image : List ℕ) (begins : Begins h b) (long : 128 ≤ length image) (raw : (k : ℕ) → IsOwn h k → get_or image k 0 ≡ get_or b k 0) where
   abbrev g : Header

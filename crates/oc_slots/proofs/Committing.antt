@@ -1,15 +1,15 @@
 -- Whatever a stop leaves while the cells of a commit are put in gives the old map or the new one.
-use Rattle.std.proofs.Common.{◌≡◌, ◌≢◌, ◌∙◌, ◌⊎◌, inl, inr, ℕ, zero, suc, ◌+◌, ◌-◌, ◌*◌, ◌<◌, ◌≤◌, max, cond, List, [], ◌∷◌, ◌++◌, length, take, drop, get_or, get_or-take, Some, sym, ap, ap₂, subst, subst₂, refl, arith}
+use Rattle.std.proofs.Common.{◌≡◌, ◌≢◌, ◌∙◌, ◌⊎◌, inl, inr, ℕ, zero, suc, ◌+◌, ◌*◌, ◌<◌, ◌≤◌, max, cond, List, [], ◌∷◌, ◌++◌, length, take, drop, get_or, get_or-take, sym, ap, ap₂, subst, subst₂, refl, arith}
 use Rattle.std.specs.Prelude.{All}
-use Rattle.std.proofs.lemmas.Bool.{cases_lt, cases_eq}
+use Rattle.std.proofs.lemmas.Bool.{cases_eq}
 use Rattle.std.proofs.lemmas.List.Sums.{sum_by-cons}
 use Rattle.oc_layout.specs.declared.cells.Cell.{Cell}
 use Rattle.oc_layout.specs.declared.cells.CellWrite.{CellWrite}
 use Rattle.oc_layout.specs.declared.cells.Header.{Header}
-use Rattle.oc_layout.specs.Layout.{unit_of, room_of, is_wide, first_page_of, first_cell, blocks, read_writes}
+use Rattle.oc_layout.specs.Layout.{unit_of, is_wide, first_page_of, first_cell, blocks, read_writes}
 use Rattle.oc_layout.specs.Headers.{fields}
 use Rattle.oc_host.specs.Disk.{Disk, Fixed, Apart}
-use Rattle.oc_log.specs.Log.{slice, with_log, put_cells, log_at, settled, AllApart, AllClear, AreTargets, Clear}
+use Rattle.oc_log.specs.Log.{slice, with_log, put_cells, log_at, settled, AllClear, Clear}
 use Rattle.oc_log.specs.States.{HasLog}
 use Rattle.oc_log.specs.Stops.{HasNone, HasAll, NoneOrAll}
 use Rattle.oc_log.proofs.Bytes.{length-put, put_out}
@@ -20,7 +20,7 @@ use Rattle.oc_pages.specs.Chains.{HasPages}
 use Rattle.oc_pages.proofs.Images.{first_same}
 use Rattle.oc_room.specs.Rooms.{owns, owners}
 use Rattle.oc_slots.specs.Maps.{content}
-use Rattle.oc_slots.specs.Forms.{Begins, LiesIn, ToPutIn, IsOwn, IsTarget, HasForm, Gives, header_cell, log_things, root_place}
+use Rattle.oc_slots.specs.Forms.{LiesIn, ToPutIn, IsOwn, IsTarget, Gives, header_cell, log_things}
 use Rattle.oc_slots.specs.Held.{IsHeld, IsBeside, Holds, map_of}
 use Rattle.oc_slots.specs.Commits.{IsCommit}
 use Rattle.oc_slots.proofs.Apart.{beside_first}

@@ -1,10 +1,9 @@
 -- Whatever a stop leaves of a file that holds its committed side gives that side's map.
-use Rattle.std.proofs.Common.{◌≡◌, ◌≢◌, ◌∙◌, inl, inr, ℕ, ◌+◌, ◌-◌, ◌*◌, ◌<◌, ◌≤◌, List, [], ◌∷◌, length, get_or, sym, ap, subst, refl, arith}
+use Rattle.std.proofs.Common.{◌≡◌, ◌∙◌, inl, ℕ, ◌+◌, ◌-◌, ◌*◌, ◌<◌, ◌≤◌, List, [], length, get_or, sym, ap, subst, refl, arith}
 use Rattle.std.specs.Prelude.{All}
 use Rattle.oc_layout.specs.declared.cells.Cell.{Cell}
 use Rattle.oc_layout.specs.declared.cells.Header.{Header}
-use Rattle.oc_layout.specs.Layout.{unit_of, room_of, first_page_of, blocks}
-use Rattle.oc_layout.specs.Headers.{fields}
+use Rattle.oc_layout.specs.Layout.{unit_of, first_page_of}
 use Rattle.oc_host.specs.Disk.{Disk, IsImage, Fixed, now}
 use Rattle.oc_pages.specs.declared.page.Page.{Page}
 use Rattle.oc_pages.specs.Pages.{things_of}

@@ -1,5 +1,5 @@
 -- A file gives one map at most.
-use Rattle.std.proofs.Common.{◌≡◌, ◌∙◌, inl, inr, ℕ, List, [], Option, Some, None, sym, ap, subst, refl}
+use Rattle.std.proofs.Common.{◌≡◌, ◌∙◌, inl, inr, ℕ, List, Some, sym, subst}
 use Rattle.oc_layout.specs.declared.cells.CellWrite.{CellWrite}
 use Rattle.oc_layout.specs.declared.cells.Header.{Header}
 use Rattle.oc_layout.specs.Layout.{unit_of, first_page_of}
@@ -9,7 +9,6 @@ use Rattle.oc_pages.specs.declared.page.Page.{Page}
 use Rattle.oc_pages.specs.Pages.{pointer_of}
 use Rattle.oc_pages.specs.Chains.{Chain}
 use Rattle.oc_pages.proofs.ChainLaws.{chain_only}
-use Rattle.oc_slots.specs.declared.slot.SlotId.{SlotId}
 use Rattle.oc_slots.specs.Maps.{SlotMap, Same, content}
 use Rattle.oc_slots.specs.Forms.{ToPutIn, HasForm, Gives}
 

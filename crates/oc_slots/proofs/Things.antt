@@ -1,17 +1,14 @@
 -- Things whose bytes are the same in two files.
-use Rattle.std.proofs.Common.{◌≡◌, ◌∙◌, inl, inr, ℕ, zero, suc, ◌+◌, ◌*◌, ◌<◌, ◌≤◌, Bool, true, false, cond, List, [], ◌∷◌, ◌++◌, length, take, drop, get_or, Option, Some, None, sym, ap, subst, refl, arith, length-append}
-use Rattle.std.specs.Prelude.{All, Contains, option_map, filter, not, find}
-use Rattle.std.specs.List.{flat_map}
-use Rattle.std.proofs.lemmas.Bool.{cases_lt, cases_Bool}
-use Rattle.std.proofs.lemmas.Bool.Decides.{nat_tests}
+use Rattle.std.proofs.Common.{◌≡◌, ◌∙◌, inl, inr, ℕ, zero, suc, ◌+◌, ◌*◌, ◌<◌, ◌≤◌, Bool, true, false, List, [], ◌∷◌, ◌++◌, length, get_or, Option, Some, None, sym, ap, subst, refl, arith, length-append}
+use Rattle.std.specs.Prelude.{All, Contains, filter, not}
+use Rattle.std.proofs.lemmas.Bool.{cases_lt}
 use Rattle.std.proofs.lemmas.List.{get_or_past, get_or_append_left}
-use Rattle.std.proofs.lemmas.List.Elements.{recursion_from_All, All-from_recursion}
 use Rattle.oc_layout.specs.declared.cells.Cell.{Cell}
 use Rattle.oc_layout.specs.declared.cells.Space.{Space}
 use Rattle.oc_log.proofs.Bytes.{slice_same}
 use Rattle.oc_pages.specs.declared.page.Page.{Page}
 use Rattle.oc_pages.specs.Pages.{no_cell, is_empty, pointer_in, cell_in, slot_in, holds, page_holding, place_of, pointer_of, things_in, things_of}
-use Rattle.oc_pages.specs.Chains.{Chain, HasPages, IsKept}
+use Rattle.oc_pages.specs.Chains.{HasPages}
 use Rattle.oc_pages.proofs.ChainLaws.{chain_same}
 use Rattle.oc_pages.proofs.Listings.{found_is, no_pointer, its_pointer}
 use Rattle.oc_slots.specs.Maps.{bytes_at, content}

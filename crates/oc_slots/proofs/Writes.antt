@@ -1,18 +1,18 @@
 -- A write beside what a file holds of its committed side.
-use Rattle.std.proofs.Common.{◌≡◌, ◌∙◌, ◌⊎◌, inl, inr, ℕ, ◌+◌, ◌*◌, ◌<◌, ◌≤◌, max, List, [], ◌∷◌, length, get_or, sym, ap, subst, refl, arith}
+use Rattle.std.proofs.Common.{◌≡◌, ◌∙◌, inl, inr, ℕ, ◌+◌, ◌≤◌, max, List, ◌∷◌, length, sym, subst, arith}
 use Rattle.std.specs.Prelude.{All}
 use Rattle.std.proofs.lemmas.Bool.{cases_lt}
 use Rattle.oc_layout.specs.declared.cells.Cell.{Cell}
 use Rattle.oc_layout.specs.declared.cells.Header.{Header}
 use Rattle.oc_layout.specs.Layout.{unit_of, room_of, first_page_of, blocks}
-use Rattle.oc_host.specs.Disk.{Disk, IsDisk, IsImage, Fixed, Outside, over, now, writing, wrote}
+use Rattle.oc_host.specs.Disk.{Disk, IsDisk, IsImage, over, writing, wrote}
 use Rattle.oc_log.proofs.Bytes.{length-over, over_out}
 use Rattle.oc_pages.specs.declared.page.Page.{Page}
 use Rattle.oc_pages.specs.Pages.{things_of}
 use Rattle.oc_slots.specs.Maps.{Same}
 use Rattle.oc_slots.specs.Forms.{LiesIn, Gives, header_cell}
 use Rattle.oc_slots.specs.Held.{IsHeld, IsBeside, Holds, map_of}
-use Rattle.oc_slots.proofs.Headers.{unit_some, blocks_rise, begins_alike}
+use Rattle.oc_slots.proofs.Headers.{begins_alike}
 use Rattle.oc_slots.proofs.Things.{IsAlike, tail_of, slots_alike, pages_alike}
 use Rattle.oc_slots.proofs.HeldGives.{held_gives}
 

@@ -1,5 +1,5 @@
 -- What a commit puts in by its log.
-use Rattle.std.specs.Prelude.{◌≡◌, ◌≤◌, ℕ, ◌+◌, max, List, ◌∷◌, length, All}
+use Rattle.std.specs.Prelude.{◌≤◌, ℕ, ◌+◌, max, List, ◌∷◌, length, All}
 use Rattle.oc_layout.specs.declared.cells.Cell.{Cell}
 use Rattle.oc_layout.specs.declared.cells.CellWrite.{CellWrite}
 use Rattle.oc_layout.specs.declared.cells.Header.{Header}
