@@ -18,7 +18,6 @@ use Rattle.oc_pages.proofs.Changes.{with_held, with_other}
 use Rattle.oc_pages.proofs.Images.{page_again, page_kept, page_written, length-over, over_out, length-cells}
 use Rattle.oc_pages.proofs.Listings.{found_is}
 use Rattle.oc_pages.proofs.Ranges.{within_is}
-
 -- an image has one chain from a root cell
 pub use Rattle.oc_pages.proofs.Walks.{chain_only}
 

@@ -86,10 +86,10 @@ module _ (first : Cell) (n : ℕ) (kept new : List Page) (place slot : ℕ) (spa
       e ∙ ap (λ (s : ℕ). set kept place (record (page_in kept place) { cells = set (page_in kept place).cells s cell })) slot_is
       ∙ ap (set kept place) (sym (with_held space number cell (page_in kept place) here))
       ∙ set_is_map (with_cell space number cell) kept place lt
-          (λ k in_ apart. with_other space number cell (page_in kept k) (elim (cases_Bool (holds space number (page_in kept k))) [
-            | inl yes_ ↦ absurd (apart (holder_once space number kept place distinct lt here k in_ yes_))
-            | inr no_ ↦ no_
-          ]))
+      (λ k in_ apart. with_other space number cell (page_in kept k) (elim (cases_Bool (holds space number (page_in kept k))) [
+        | inl yes_ ↦ absurd (apart (holder_once space number kept place distinct lt here k in_ yes_))
+        | inr no_ ↦ no_
+      ]))
 
   pub pages_set : chained n new ≡ with_pointer space number cell (chained n kept)
   pages_set = ap (chained n) changed ∙ chained_map (with_cell space number cell) n kept
@@ -101,5 +101,5 @@ module _ (first : Cell) (n : ℕ) (kept new : List Page) (place slot : ℕ) (spa
     named = subst (λ (l : List Page). All IsNamed l) (sym e)
         (All-set IsNamed kept place (record (page_in kept place) { cells = set (page_in kept place).cells slot cell })
         (subst (λ (s : ℕ). IsNamed (record (page_in kept place) { cells = set (page_in kept place).cells s cell })) (sym slot_is)
-          (named_set (page_in kept place) number cell (is.named place no_page lt) (grind (arith, here)) few)) is.named);
+        (named_set (page_in kept place) number cell (is.named place no_page lt) (grind (arith, here)) few)) is.named);
   }

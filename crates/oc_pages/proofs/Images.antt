@@ -117,26 +117,26 @@ module _ (p : Page) (b c : List ℕ) (slot : ℕ) (cell : Cell) (reads : ReadsAs
         ∙ get_or-set_same p.cells slot cell no_cell (omega (arith, lt, ap length reads.cells, length-cells 126 (drop 16 b)))
         ∙ sym (cell_again cell [] fits) ∙ ap first_cell (append-nil (cell_bytes cell))
         ∙ sym (cell_there 126 (drop 16 c) i (cell_bytes cell) below
-            (λ k less.
-            let there : 16 + (8 * i + k) ≡ 16 + 8 * slot + k = omega (arith, same) in
-            get_or-drop 16 c (8 * i + k) 0 ∙ ap (λ (j : ℕ). get_or c j 0) there ∙ in_ k less))
+        (λ k less.
+        let there : 16 + (8 * i + k) ≡ 16 + 8 * slot + k = omega (arith, same) in
+        get_or-drop 16 c (8 * i + k) 0 ∙ ap (λ (j : ℕ). get_or c j 0) there ∙ in_ k less))
     | inr apart ↦
         get_or-set_other p.cells slot i cell no_cell apart
         ∙ ap (λ (l : List Cell). get_or l i no_cell) reads.cells
         ∙ cell_there 126 (drop 16 b) i (drop (16 + 8 * i) c) below
-            (λ k less.
-            let there : 16 + (8 * i + k) ≡ 16 + 8 * i + k = omega arith in
-            let away : (16 + 8 * i + k < 16 + 8 * slot) ⊎ (16 + 8 * slot + 8 ≤ 16 + 8 * i + k) = elim (cases_lt i slot) [
-              | inl before ↦ inl (omega (arith, before, less))
-              | inr after ↦ inr (omega (arith, after, apart))
-            ] in
-            get_or-drop 16 b (8 * i + k) 0 ∙ ap (λ (j : ℕ). get_or b j 0) there
-            ∙ sym (out (16 + 8 * i + k) (omega (arith, below, less)) away)
-            ∙ sym (get_or-drop (16 + 8 * i) c k 0))
+        (λ k less.
+        let there : 16 + (8 * i + k) ≡ 16 + 8 * i + k = omega arith in
+        let away : (16 + 8 * i + k < 16 + 8 * slot) ⊎ (16 + 8 * slot + 8 ≤ 16 + 8 * i + k) = elim (cases_lt i slot) [
+          | inl before ↦ inl (omega (arith, before, less))
+          | inr after ↦ inr (omega (arith, after, apart))
+        ] in
+        get_or-drop 16 b (8 * i + k) 0 ∙ ap (λ (j : ℕ). get_or b j 0) there
+        ∙ sym (out (16 + 8 * i + k) (omega (arith, below, less)) away)
+        ∙ sym (get_or-drop (16 + 8 * i) c k 0))
         ∙ sym (cell_there 126 (drop 16 c) i (drop (16 + 8 * i) c) below
-            (λ k less.
-            let there : 16 + (8 * i + k) ≡ 16 + 8 * i + k = omega arith in
-            get_or-drop 16 c (8 * i + k) 0 ∙ ap (λ (j : ℕ). get_or c j 0) there ∙ sym (get_or-drop (16 + 8 * i) c k 0)))
+        (λ k less.
+        let there : 16 + (8 * i + k) ≡ 16 + 8 * i + k = omega arith in
+        get_or-drop 16 c (8 * i + k) 0 ∙ ap (λ (j : ℕ). get_or c j 0) there ∙ sym (get_or-drop (16 + 8 * i) c k 0)))
   ]
 
   pub reads_changed : ReadsAs (record p { cells = set p.cells slot cell }) c

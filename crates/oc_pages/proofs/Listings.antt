@@ -103,10 +103,13 @@ early_all space p k before numbers le was number = (
 
 -- a page of the other space has none
 pub early_other : (space : Space) (p : Page) (before : List ℕ) → space_number p.space ≢ space_number space → (number : ℕ) → Contains before number ↔ (Contains before number ⊎ IsPointed space number p)
-early_other space p before apart number = (λ h. inl h, λ h. elim h [
-  | inl old ↦ old
-  | inr is ↦ let yes_ = is.holds in let same : space_number p.space ≡ space_number space = grind (arith, nat_tests, yes_) in absurd (apart same)
-])
+early_other space p before apart number = (
+  λ h. inl h,
+  λ h. elim h [
+    | inl old ↦ old
+    | inr is ↦ let yes_ = is.holds in let same : space_number p.space ≡ space_number space = grind (arith, nat_tests, yes_) in absurd (apart same)
+  ],
+)
 
 -- ---- the numbers of the pages that were kept first
 

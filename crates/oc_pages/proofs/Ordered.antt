@@ -32,11 +32,11 @@ pub once_same : (numbers once : List ℕ) (k : ℕ) → k < length numbers → I
 once_same numbers once k lt is there = record {
   ascend = is.ascend;
   exact = λ n. (
-      λ h. subst (λ (l : List ℕ). Contains l n) (sym (more_is numbers k lt)) (Contains-append_left (take k numbers) (get_or numbers k 0 ∷ []) n ((is.exact n).0 h)),
-      λ h. elim (Contains-push_cases (take k numbers) (get_or numbers k 0) n (subst (λ (l : List ℕ). Contains l n) (more_is numbers k lt) h)) [
-        | inl old ↦ (is.exact n).1 old
-        | inr same ↦ subst (λ (m : ℕ). Contains once m) same there
-      ]
+    λ h. subst (λ (l : List ℕ). Contains l n) (sym (more_is numbers k lt)) (Contains-append_left (take k numbers) (get_or numbers k 0 ∷ []) n ((is.exact n).0 h)),
+    λ h. elim (Contains-push_cases (take k numbers) (get_or numbers k 0) n (subst (λ (l : List ℕ). Contains l n) (more_is numbers k lt) h)) [
+      | inl old ↦ (is.exact n).1 old
+      | inr same ↦ subst (λ (m : ℕ). Contains once m) same there
+    ],
   );
 }
 
@@ -54,20 +54,20 @@ once_more numbers once k lt ordered is other = record {
         let a = get_or_append_left once (get_or numbers k 0 ∷ []) d i (omega (arith, below, at)) in
         let zero_ : length once - length once ≡ 0 = omega arith in
         let b : get_or (once ++ get_or numbers k 0 ∷ []) j d ≡ get_or numbers k 0 =
-            ap (λ (m : ℕ). get_or (once ++ get_or numbers k 0 ∷ []) m d) at
-            ∙ get_or-append_right once (get_or numbers k 0 ∷ []) (length once) (length once) d refl (omega arith)
-            ∙ ap (λ (m : ℕ). get_or (get_or numbers k 0 ∷ []) m d) zero_ in
+        ap (λ (m : ℕ). get_or (once ++ get_or numbers k 0 ∷ []) m d) at
+        ∙ get_or-append_right once (get_or numbers k 0 ∷ []) (length once) (length once) d refl (omega arith)
+        ∙ ap (λ (m : ℕ). get_or (get_or numbers k 0 ∷ []) m d) zero_ in
         omega (arith, a, b, smaller i d (omega (arith, below, at)))
   ];
   exact = λ n. (
-      λ h. subst (λ (l : List ℕ). Contains l n) (sym (more_is numbers k lt)) (elim (Contains-push_cases once (get_or numbers k 0) n h) [
-        | inl old ↦ Contains-append_left (take k numbers) (get_or numbers k 0 ∷ []) n ((is.exact n).0 old)
-        | inr same ↦ subst (λ (m : ℕ). Contains (take k numbers ++ get_or numbers k 0 ∷ []) m) same (Contains-push (take k numbers) (get_or numbers k 0))
-      ]),
-      λ h. elim (Contains-push_cases (take k numbers) (get_or numbers k 0) n (subst (λ (l : List ℕ). Contains l n) (more_is numbers k lt) h)) [
-        | inl old ↦ Contains-append_left once (get_or numbers k 0 ∷ []) n ((is.exact n).1 old)
-        | inr same ↦ subst (λ (m : ℕ). Contains (once ++ get_or numbers k 0 ∷ []) m) same (Contains-push once (get_or numbers k 0))
-      ]
+    λ h. subst (λ (l : List ℕ). Contains l n) (sym (more_is numbers k lt)) (elim (Contains-push_cases once (get_or numbers k 0) n h) [
+      | inl old ↦ Contains-append_left (take k numbers) (get_or numbers k 0 ∷ []) n ((is.exact n).0 old)
+      | inr same ↦ subst (λ (m : ℕ). Contains (take k numbers ++ get_or numbers k 0 ∷ []) m) same (Contains-push (take k numbers) (get_or numbers k 0))
+    ]),
+    λ h. elim (Contains-push_cases (take k numbers) (get_or numbers k 0) n (subst (λ (l : List ℕ). Contains l n) (more_is numbers k lt) h)) [
+      | inl old ↦ Contains-append_left once (get_or numbers k 0 ∷ []) n ((is.exact n).1 old)
+      | inr same ↦ subst (λ (m : ℕ). Contains (once ++ get_or numbers k 0 ∷ []) m) same (Contains-push once (get_or numbers k 0))
+    ],
   );
 }
   where
@@ -101,7 +101,7 @@ pub permuted : (numbers sorted seen once : List ℕ) → IsPermutation numbers s
 permuted numbers sorted seen once same is_seen is = record {
   ascend = is.ascend;
   exact = λ n. (
-      λ h. Contains-permutation sorted numbers n (IsPermutation-sym numbers sorted same) (subst (λ (l : List ℕ). Contains l n) is_seen ((is.exact n).0 h)),
-      λ h. (is.exact n).1 (subst (λ (l : List ℕ). Contains l n) (sym is_seen) (Contains-permutation numbers sorted n same h))
+    λ h. Contains-permutation sorted numbers n (IsPermutation-sym numbers sorted same) (subst (λ (l : List ℕ). Contains l n) is_seen ((is.exact n).0 h)),
+    λ h. (is.exact n).1 (subst (λ (l : List ℕ). Contains l n) (sym is_seen) (Contains-permutation numbers sorted n same h)),
   );
 }

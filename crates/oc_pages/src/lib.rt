@@ -13,6 +13,8 @@ mod page;
 mod pages;
 mod places;
 mod table;
+#[cfg(test)]
+mod tests;
 
 pub use fault::PagesFault;
 pub use pages::Pages;

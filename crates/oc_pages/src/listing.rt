@@ -3,7 +3,7 @@ ghost use Rattle.std.specs.Prelude.{◌≡◌, ◌⊎◌, ◌↔◌, ℕ, ◌++�
 ghost use Rattle.oc_pages.specs.Pages.{things_in, IsPointed};
 ghost use Rattle.oc_pages.specs.Places.{IsNamed};
 
-use crate::page::{NUMBERS, Page, PAGE, is_empty, number_of};
+use crate::page::{NUMBERS, PAGE, Page, is_empty, number_of};
 use oc_layout::{Cell, Space};
 use std::alloc::AllocError;
 

@@ -13,12 +13,15 @@ use oc_layout::{Cell, Space, read_cell, write_cell};
 pub const PAGE: u32 = 1024;
 
 const CELL: usize = 8;
+
 const CELLS: usize = 126;
 /// The numbers of a page.
 pub const NUMBERS: u32 = 126;
 
 const FIRST_CELL: usize = 16;
+
 const LAST_ADDRESS: u32 = 2_147_483_647;
+
 const LAST_NUMBER: u64 = 2_147_483_646;
 
 /// A page where it stands: its block, the space and the index, the cell that names the next page,

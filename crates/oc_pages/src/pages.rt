@@ -10,6 +10,7 @@ use std::alloc::{AllocError, Global};
 use std::marker::Model;
 
 const FIRST_CELL: u64 = 16;
+
 const CELL: u64 = 8;
 
 /// The pages of a file, which say which number of which space has which cell.
@@ -186,7 +187,7 @@ impl Pages {
         ensures { MatchOption result
             (page_of self.now.pages space index ≡ None)
             (λ bytes. (page : Page) × (page_of self.now.pages space index ≡ Some page)
-                × SpellsPage page bytes) }
+            × SpellsPage page bytes) }
     {
         let place = self.table.place(space, index)?;
         Some(write_page(self.table.page(place)))

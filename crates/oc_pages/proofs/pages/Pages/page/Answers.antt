@@ -18,8 +18,7 @@ pub returns : goal.returns
 returns c =
     let kept = c.self.inside.table.pages in
     let q = page_in kept c.in_ok-place.place in
-    let some = c.in_ok-place.ensures.some in
-    (
+    let some = c.in_ok-place.ensures.some in (
       q,
       subst (λ (v : Paged). page_of v.pages c.args.space c.args.index ≡ Some q) c.self.view_is (page_found c.self.inside.loaded kept c.in_ok-place.place c.args.space c.args.index c.place.ensures.distinct some.0 some.1),
       subst (λ (p : Page). SpellsPage p c.write_page.result) c.page.ensures c.write_page.ensures,
