@@ -1,3 +1,4 @@
-pub mod Tables
+pub mod Finishing
 pub mod Raising
+pub mod Tables
 pub mod Turning

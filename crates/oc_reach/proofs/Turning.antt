@@ -3,14 +3,14 @@ use Rattle.std.proofs.Common.{◌≡◌, ℕ, ◌<◌, ◌≤◌, ◌⊎◌, inl
 use Rattle.std.specs.List.{All, Contains}
 use Rattle.std.specs.List.Sorted.{IsPermutation}
 use Rattle.std.proofs.lemmas.Bool.{cases_lt}
-use Rattle.std.proofs.lemmas.List.Elements.{Contains-append_cases, Contains-push_cases, All-head, All-tail}
+use Rattle.std.proofs.lemmas.List.Elements.{Contains-append_cases, Contains-push_cases, All-head, All-tail, All-nil, All-cons}
 use Rattle.std.proofs.lemmas.List.Sorted.{Contains-permutation, All-permutation}
 use Rattle.std.specs.FinMap.{find, put, is_sorted}
 use Rattle.oc_model.specs.declared.reach.Node.{Node}
 use Rattle.oc_model.specs.Lists.{IsOneOf}
 use Rattle.oc_model.specs.Walks.{Walk, IsLawful, Arrives, begins, goes_on, Table, IsBest, node_cmp, budget, raised}
 use Rattle.oc_model.proofs.Elements.{from_map, to_map}
-use Rattle.oc_model.proofs.Reaching.{entry_of_put, found_entry, known_budget, rounds-at, arrives_small, sorted_rounds, of_true}
+use Rattle.oc_model.proofs.Reaching.{entry_of_put, found_entry, known_budget, raised-at, rounds-at, arrives_small, sorted_rounds, of_true}
 use Rattle.oc_reach.specs.Work.{Work, Answers, IsRaised, IsAsked, IsUnderWay, AllArrive, HasHandedOn, AreNew, Adds, arrivals, newly, widest}
 use Rattle.oc_reach.proofs.Tables.{none_of}
 
@@ -27,7 +27,7 @@ pub all_at : {X : Type 0} (P : X → Type 0) (x : X) (xs : List X) → All P xs 
 all_at P x [] h i = absurd i
 all_at P x (y ∷ ys) h i = elim i as (λ _. P x) [ inl e ↦ subst P (sym e) (All-head P y ys h) | inr t ↦ all_at P x ys (All-tail P y ys h) t ]
 
-true_of : (b : Bool) → T b → b ≡ true
+pub true_of : (b : Bool) → T b → b ≡ true
 true_of true h = refl
 true_of false h = absurd h
 
@@ -163,7 +163,7 @@ module _ (w : Walk) (told : Bool) (root : Node) (depth : ℕ) where
         from = s.from;
         order = subst (λ z. is_sorted node_cmp z ≡ true) (sym is) (true_of _ (sorted_rounds w root depth (arrivals w h ys) t (of_true _ s.order)));
         widely = arrive (widest w) refl refl s.widely (λ y i. all_at (λ y. IsOneOf y w.nodes) y ys (s.within x ys known) i);
-        arrive = λ yes. arrive w refl refl (s.arrive yes) (λ y i. subst (IsOneOf y) (s.right yes x ys known) i);
+        arrive = λ shown. arrive w refl refl (s.arrive shown) (λ y i. subst (IsOneOf y) (s.right shown x ys known) i);
         begun = le_trans s.begun (r.higher root);
         right = s.right;
         within = s.within;

@@ -5,6 +5,7 @@ use Rattle.std.specs.FinMap.{find, is_sorted}
 use Rattle.oc_model.specs.declared.reach.Node.{Node}
 use Rattle.oc_model.specs.Lists.{IsOneOf}
 use Rattle.oc_model.specs.Walks.{Walk, Arrives, Table, node_cmp, budget}
+use Rattle.oc_reach.specs.Asking.{AreDistinct}
 
 -- budgets that are left to hand on, each with its node
 abbrev pub Work : Type 0
@@ -76,11 +77,6 @@ pub record IsAsked (w : Walk) (told : Bool) (x : Node) (before after : Answers) 
   pub there : (ys : List Node) × (after x ≡ Some ys)
   pub only : (q : Node) (ys : List Node) → after q ≡ Some ys → (before q ≡ Some ys) ⊎ ((q ≡ x) × (IsTrue told → ys ≡ w.next x) × All (λ y. IsOneOf y w.nodes) ys)
 
--- no element comes twice
-abbrev pub AreDistinct : List Node → Type 0
-AreDistinct [] = Unit {0}
-AreDistinct (x ∷ xs) = (IsOneOf x xs → ⊥) × AreDistinct xs
-
 -- These were asked for, each once, and only where nothing was answered and the node is reached.
 pub record AreNew (before : Answers) (t : Table) (asked : List Node) : Type 0 where
   pub once : AreDistinct asked
@@ -92,3 +88,8 @@ pub record Adds (before after : Answers) (t : Table) (asked : List Node) : Type 
   pub new : AreNew before t asked
   pub known : (x : Node) → IsOneOf x asked → is_some (after x) ≡ true
   pub keeps : (x : Node) → is_some (before x) ≡ true → is_some (after x) ≡ true
+
+-- each of these was asked for once, and is answered
+pub record AreAnswered (answers : Answers) (asked : List Node) : Type 0 where
+  pub once : AreDistinct asked
+  pub known : (x : Node) → IsOneOf x asked → is_some (answers x) ≡ true

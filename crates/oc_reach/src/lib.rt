@@ -3,7 +3,9 @@
 
 mod key;
 mod progress;
+mod reaching;
 mod spread;
 
 pub use oc_model::reach::{ClassSettings, Node};
+pub use reaching::reached;
 pub use spread::Spread;
