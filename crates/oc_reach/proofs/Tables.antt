@@ -1,9 +1,9 @@
 -- Maps by nodes as tables.
-use Rattle.std.proofs.Common.{◌≡◌, ◌⊎◌, inl, inr, Bool, true, false, true≢false, List, [], ◌∷◌, Option, Some, None, is_some, option_map, cond, refl, sym, ap, ◌∙◌, subst, IsTrue}
+use Rattle.std.proofs.Common.{◌≡◌, ℕ, ◌⊎◌, inl, inr, Bool, true, false, true≢false, List, [], ◌∷◌, Option, Some, None, is_some, option_map, cond, refl, sym, ap, ◌∙◌, subst, IsTrue}
 use Rattle.std.specs.List.{All}
 use Rattle.std.specs.Ordering.{eq_by_cmp}
 use Rattle.std.specs.FinMap.Entries.{find-put}
-use Rattle.std.specs.Ordering.{match_ordering}
+use Rattle.std.specs.Ordering.{match_ordering, nat_cmp}
 use Rattle.std.specs.BTreeMap.{is_at, insert_entry}
 use Rattle.std.specs.Map.{lookup}
 use Rattle.std.specs.FinMap.{find, put}
@@ -16,21 +16,27 @@ use Rattle.oc_model.specs.Walks.{Walk, node_cmp}
 use Rattle.oc_model.proofs.Reaching.{nodes_total, same_node, self_tied}
 use Rattle.oc_reach.specs.Work.{answers_of, IsAsked}
 
-pub lookup_is : {X : Type 0} (x : Node) (t : List (Node × X)) → lookup (is_at (node_cmp x)) t ≡ find node_cmp x t
-lookup_is x [] = refl
-lookup_is x (e ∷ t) = ap (cond (is_at (node_cmp x) e.0) (Some e.1)) (lookup_is x t)
+lookup_is : {K X : Type 0} (R : K → K → Ordering) (x : K) (t : List (K × X)) → lookup (is_at (R x)) t ≡ find R x t
+lookup_is R x [] = refl
+lookup_is R x (e ∷ t) = ap (cond (is_at (R x) e.0) (Some e.1)) (lookup_is R x t)
+
+pub node_found : {X : Type 0} (x : Node) (t : List (Node × X)) → lookup (is_at (node_cmp x)) t ≡ find node_cmp x t
+node_found x t = lookup_is node_cmp x t
+
+pub class_found : {X : Type 0} (c : ℕ) (t : List (ℕ × X)) → lookup (is_at (nat_cmp c)) t ≡ find nat_cmp c t
+class_found c t = lookup_is nat_cmp c t
 
 by_match : {X : Type 0} (o : Ordering) (a b c d : X) → c ≡ d → match_ordering o a b c ≡ by_order o a b d
 by_match Less a b c d e = refl
 by_match Equal a b c d e = refl
 by_match Greater a b c d e = e
 
-pub insert_is : {X : Type 0} (t : List (Node × X)) (x : Node) (k : X) → insert_entry node_cmp t x k ≡ put node_cmp x k t
-insert_is [] x k = refl
-insert_is (e ∷ t) x k = by_match (node_cmp x e.0) ((x, k) ∷ e ∷ t) ((e.0, k) ∷ t) (e ∷ insert_entry node_cmp t x k) (e ∷ put node_cmp x k t) (ap (λ u. e ∷ u) (insert_is t x k))
+pub insert_is : {K X : Type 0} (R : K → K → Ordering) (t : List (K × X)) (x : K) (k : X) → insert_entry R t x k ≡ put R x k t
+insert_is R [] x k = refl
+insert_is R (e ∷ t) x k = by_match (R x e.0) ((x, k) ∷ e ∷ t) ((e.0, k) ∷ t) (e ∷ insert_entry R t x k) (e ∷ put R x k t) (ap (λ u. e ∷ u) (insert_is R t x k))
 
 pub entered : {X : Type 0} (t u : List (Node × X)) (x y : Node) (k : X) → x ≡ y → u ≡ insert_entry node_cmp t x k → u ≡ put node_cmp y k t
-entered t u x y k e f = f ∙ insert_is t x k ∙ ap (λ z. put node_cmp z k t) e
+entered t u x y k e f = f ∙ insert_is node_cmp t x k ∙ ap (λ z. put node_cmp z k t) e
 
 -- what the answers have, with one more
 pub answers_put : {V : Type 0} (items : V → List Node) (t : List (Node × V)) (x : Node) (v : V) (q : Node) → answers_of items (put node_cmp x v t) q ≡ cond (eq_by_cmp node_cmp q x) (Some (items v)) (answers_of items t q)
@@ -70,4 +76,4 @@ asked_now items t w told x v none right within =
     some_same e = cc
 
 pub known_is : {V : Type 0} (items : V → List Node) (x : Node) (t : List (Node × V)) → is_some (lookup (is_at (node_cmp x)) t) ≡ is_some (answers_of items t x)
-known_is items x t = ap is_some (lookup_is x t) ∙ elim (find node_cmp x t) as (λ o. is_some o ≡ is_some (option_map items o)) [ None ↦ refl | Some v ↦ refl ]
+known_is items x t = ap is_some (node_found x t) ∙ elim (find node_cmp x t) as (λ o. is_some o ≡ is_some (option_map items o)) [ None ↦ refl | Some v ↦ refl ]

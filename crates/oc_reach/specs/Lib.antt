@@ -1,3 +1,4 @@
 pub mod Asking
+pub mod Graphs
 pub mod NodeOrder
 pub mod Work

@@ -25,7 +25,7 @@ pub(crate) struct Progress {
 }
 
 /// The budget of the node, 0 where it isn't there.
-#[tactic(auto, using(crate::proofs::Tables::lookup_is))]
+#[tactic(auto, using(crate::proofs::Tables::node_found))]
 pub(crate) fn budget_of(budgets: &BTreeMap<Key, u32>, node: Node) -> u32
     ensures { result ≡ budget budgets.now.entries node }
 {
@@ -79,7 +79,7 @@ fn is_known(answers: &BTreeMap<Key, Vec<Node>>, node: Node) -> bool
 }
 
 /// The answer that is kept for the node.
-#[tactic(auto, using(crate::proofs::Tables::lookup_is))]
+#[tactic(auto, using(crate::proofs::Tables::node_found))]
 fn answer_of(answers: &BTreeMap<Key, Vec<Node>>, node: Node) -> Option<&Vec<Node>>
     ensures { option_copied result ≡ find node_cmp node answers.now.entries }
 {
