@@ -1,14 +1,13 @@
 -- The start of a walk and its end, and what was asked for on the way.
-use Rattle.std.proofs.Common.{◌≡◌, ℕ, ◌+◌, ◌-◌, ◌*◌, ◌<◌, ◌≤◌, ◌⊎◌, inl, inr, List, [], ◌∷◌, ◌++◌, length, Some, None, is_some, Bool, true, false, true≢false, refl, sym, ap, ◌∙◌, subst, arith, le_trans, IsTrue}
-use Rattle.std.specs.List.{All, Contains}
-use Rattle.std.proofs.lemmas.Bool.{cases_lt}
+use Rattle.std.proofs.Common.{◌≡◌, ℕ, ◌*◌, ◌<◌, ◌≤◌, inl, inr, List, [], ◌∷◌, ◌++◌, length, Some, None, is_some, Bool, true, true≢false, refl, sym, ap, ◌∙◌, subst, arith, le_trans, IsTrue}
+use Rattle.std.specs.List.{All}
 use Rattle.std.proofs.lemmas.List.Elements.{All-nil, All-cons}
-use Rattle.std.specs.FinMap.{find, is_sorted}
+use Rattle.std.specs.FinMap.{is_sorted}
 use Rattle.oc_model.specs.declared.reach.Node.{Node}
 use Rattle.oc_model.specs.Lists.{IsOneOf}
 use Rattle.oc_model.specs.Walks.{Walk, IsLawful, Arrives, begins, goes_on, Reached, Table, IsBest, node_cmp, budget, raised}
 use Rattle.oc_model.proofs.Elements.{in_append}
-use Rattle.oc_model.proofs.Reaching.{found_entry, known_budget, raised-at, arrives_small, sorted_rounds}
+use Rattle.oc_model.proofs.Reaching.{found_entry, known_budget, raised-at, sorted_rounds}
 use Rattle.oc_reach.specs.Asking.{AreDistinct, AskedOnce}
 use Rattle.oc_reach.specs.Work.{Work, Answers, IsRaised, IsUnderWay, AreNew, Adds, AreAnswered, all_budgets, widest}
 use Rattle.oc_reach.proofs.Turning.{all_arrive, arrives_inside, budget_fits, node_inside, true_of}
@@ -65,10 +64,10 @@ module _ (w : Walk) (told : Bool) (root : Node) (depth : ℕ) where
       let top : w.hand x (budget t x) ≤ 65535 = l.hand_small x (budget t x) here fits in
       let on : w.arrive y (w.hand x j) ≤ w.arrive y (w.hand x (budget t x)) = l.arrive_rises y (w.hand x j) (w.hand x (budget t x)) up top in
       subst (λ n. n ≤ budget t y) (sym q) (le_trans on
-        (elim (u.done x here) [
-          | inl c ↦ absurd (let lt : c.0 < 0 = c.1 in omega arith)
-          | inr d ↦ d.2 y (subst (IsOneOf y) (sym (u.right shown x d.0 d.1)) i)
-        ]))
+      (elim (u.done x here) [
+        | inl c ↦ absurd (let lt : c.0 < 0 = c.1 in omega arith)
+        | inr d ↦ d.2 y (subst (IsOneOf y) (sym (u.right shown x d.0 d.1)) i)
+      ]))
 
   -- with no work left
   pub finished : (a : Answers) (t : Table) → IsLawful w → IsUnderWay w told root depth a t [] → IsTrue told → IsBest w root depth t
@@ -77,8 +76,8 @@ module _ (w : Walk) (told : Bool) (root : Node) (depth : ℕ) where
         order = u.order;
         arrives = λ x k e. u.arrive shown x k (found_entry x k t e);
         greatest = λ x k b one.
-          let below : k ≤ budget t x = greatest a t l u shown x k b in
-          (budget t x, known_budget t x (le_trans one below), below);
+            let below : k ≤ budget t x = greatest a t l u shown x k b in
+            (budget t x, known_budget t x (le_trans one below), below);
       }
 
   pub entries_inside : (a : Answers) (t : Table) (work : Work) → IsUnderWay w told root depth a t work → All (λ (e : Node × ℕ). IsOneOf e.0 w.nodes) t

@@ -1,6 +1,5 @@
 -- The walks over a graph are lawful, and over the graph of a state they are those of the state.
 use Rattle.std.proofs.Common.{◌≡◌, ℕ, ◌-◌, ◌≤◌, Bool, true, false, Option, Some, None, unwrap_or, if◌then◌else◌, refl, arith}
-use Rattle.oc_model.specs.declared.reach.Node.{Node}
 use Rattle.oc_model.specs.declared.reach.ClassSettings.{ClassSettings}
 use Rattle.oc_model.specs.Maps.{at}
 use Rattle.oc_model.specs.Stores.{Store}

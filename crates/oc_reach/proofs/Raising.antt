@@ -1,11 +1,11 @@
 -- One raise, and raises one after the other.
-use Rattle.std.proofs.Common.{◌≡◌, ℕ, ◌+◌, ◌<◌, ◌≤◌, ◌⊎◌, inl, inr, ⊎_elim, List, [], ◌∷◌, length, cond, Bool, true, false, nat_lt, refl, sym, ap, ◌∙◌, subst, arith, ltb-true, ltb-false, le_trans, lt-ltb, fold, drop, get_or}
+use Rattle.std.proofs.Common.{◌≡◌, ℕ, ◌+◌, ◌<◌, ◌≤◌, inl, inr, List, [], ◌∷◌, length, cond, true, false, refl, sym, ap, ◌∙◌, subst, arith, le_trans, lt-ltb, fold, drop, get_or}
 use Rattle.std.proofs.lemmas.List.{drop_more}
 use Rattle.std.proofs.lemmas.Bool.{cases_lt}
-use Rattle.std.specs.List.{All, Contains}
+use Rattle.std.specs.List.{Contains}
 use Rattle.std.specs.List.Sorted.{IsPermutation}
 use Rattle.std.specs.Ordering.{eq_by_cmp}
-use Rattle.std.proofs.lemmas.List.Elements.{Contains-append_right, Contains-push, All-cons}
+use Rattle.std.proofs.lemmas.List.Elements.{Contains-append_right, All-cons}
 use Rattle.std.proofs.lemmas.List.Sorted.{Contains-permutation, All-permutation, length_permutation}
 use Rattle.std.specs.FinMap.{put}
 use Rattle.oc_model.specs.declared.reach.Node.{Node}

@@ -72,6 +72,7 @@ asked_now items t w told x v none right within =
   where
     no_some : {ys : List Node} → None ≡ Some ys → ⊥
     no_some e = cc
+
     some_same : {xs ys : List Node} → Some xs ≡ Some ys → xs ≡ ys
     some_same e = cc
 

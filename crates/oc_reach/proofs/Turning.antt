@@ -1,16 +1,16 @@
 -- What one turn makes of a walk under way.
-use Rattle.std.proofs.Common.{◌≡◌, ℕ, ◌<◌, ◌≤◌, ◌⊎◌, inl, inr, List, [], ◌∷◌, Option, Some, None, is_some, fold, cond, Bool, true, false, true≢false, nat_lt, T, refl, sym, ap, ◌∙◌, subst, arith, ltb-true, le_trans, IsTrue}
+use Rattle.std.proofs.Common.{◌≡◌, ℕ, ◌<◌, ◌≤◌, ◌⊎◌, inl, inr, List, [], ◌∷◌, Some, None, is_some, fold, cond, Bool, true, false, true≢false, nat_lt, T, refl, sym, ap, ◌∙◌, subst, arith, ltb-true, le_trans}
 use Rattle.std.specs.List.{All, Contains}
 use Rattle.std.specs.List.Sorted.{IsPermutation}
 use Rattle.std.proofs.lemmas.Bool.{cases_lt}
-use Rattle.std.proofs.lemmas.List.Elements.{Contains-append_cases, Contains-push_cases, All-head, All-tail, All-nil, All-cons}
+use Rattle.std.proofs.lemmas.List.Elements.{Contains-append_cases, Contains-push_cases, All-head, All-tail}
 use Rattle.std.proofs.lemmas.List.Sorted.{Contains-permutation, All-permutation}
-use Rattle.std.specs.FinMap.{find, put, is_sorted}
+use Rattle.std.specs.FinMap.{put, is_sorted}
 use Rattle.oc_model.specs.declared.reach.Node.{Node}
 use Rattle.oc_model.specs.Lists.{IsOneOf}
-use Rattle.oc_model.specs.Walks.{Walk, IsLawful, Arrives, begins, goes_on, Table, IsBest, node_cmp, budget, raised}
+use Rattle.oc_model.specs.Walks.{Walk, IsLawful, Arrives, begins, goes_on, Table, node_cmp, budget, raised}
 use Rattle.oc_model.proofs.Elements.{from_map, to_map}
-use Rattle.oc_model.proofs.Reaching.{entry_of_put, found_entry, known_budget, raised-at, rounds-at, arrives_small, sorted_rounds, of_true}
+use Rattle.oc_model.proofs.Reaching.{entry_of_put, found_entry, known_budget, rounds-at, arrives_small, sorted_rounds, of_true}
 use Rattle.oc_reach.specs.Work.{Work, Answers, IsRaised, IsAsked, IsUnderWay, AllArrive, HasHandedOn, AreNew, Adds, arrivals, newly, widest}
 use Rattle.oc_reach.proofs.Tables.{none_of}
 
@@ -157,7 +157,7 @@ module _ (w : Walk) (told : Bool) (root : Node) (depth : ℕ) where
   handed_on a t u x ys rest left one known is r s =
       let h = w.hand x (budget t x) in
       let arrive = λ (v : Walk) (p : v.arrive ≡ w.arrive) (q : v.hand ≡ w.hand) (m : AllArrive v root depth t) (n : (y : Node) → IsOneOf y ys → IsOneOf y (v.next x)).
-          subst (AllArrive v root depth) (sym is) (all_arrive v (arrivals w h ys) t m (handed_arrive v t x ys p m one n q)) in
+      subst (AllArrive v root depth) (sym is) (all_arrive v (arrivals w h ys) t m (handed_arrive v t x ys p m one n q)) in
       record {
         small = s.small;
         from = s.from;
@@ -181,6 +181,7 @@ module _ (w : Walk) (told : Bool) (root : Node) (depth : ℕ) where
       at_least : (y : Node) → IsOneOf y ys → w.arrive y (w.hand x (budget t x)) ≤ budget u y
       at_least y i = subst (λ z. w.arrive y (w.hand x (budget t x)) ≤ budget z y) (sym is)
           (rounds-at (arrivals w (w.hand x (budget t x)) ys) t (y, w.arrive y (w.hand x (budget t x))) (to_map (λ z. (z, w.arrive z (w.hand x (budget t x)))) y ys i))
+
       still_done : (q : Node) → 1 ≤ budget u q → budget t q ≡ budget u q → Contains left (budget u q, q) ⊎ HasHandedOn w a u q
       still_done q some same =
           elim (s.done q (subst (λ n. 1 ≤ n) (sym same) some)) [
@@ -234,10 +235,10 @@ adds_newly w told a b t x one k =
     (elim (is_some (a x)) as (λ s. is_some (a x) ≡ s → Adds a b t (cond s [] (x ∷ []))) [
       | true ↦ λ h. record { new = none_new a t; known = λ q i. absurd i; keeps = keeps }
       | false ↦ λ h. record {
-          new = one_new a t x (none_of _ h) one;
-          known = λ q i. elim i as (λ _. is_some (b q) ≡ true) [ inl e ↦ ap (λ z. is_some (b z)) e ∙ some_is b x k.there.0 k.there.1 | inr n ↦ absurd n ];
-          keeps = keeps;
-        }
+        new = one_new a t x (none_of _ h) one;
+        known = λ q i. elim i as (λ _. is_some (b q) ≡ true) [ inl e ↦ ap (λ z. is_some (b z)) e ∙ some_is b x k.there.0 k.there.1 | inr n ↦ absurd n ];
+        keeps = keeps;
+      }
     ]) refl
   where
     keeps : (q : Node) → is_some (a q) ≡ true → is_some (b q) ≡ true

@@ -1,5 +1,4 @@
 -- The order of nodes is total.
-use Rattle.std.specs.Ordering.{nat_cmp}
 use Rattle.std.specs.Cmp.{IsTotalOrder, nat_cmp_total, on_total, then_total}
 use Rattle.oc_model.specs.Walks.{node_cmp, node_kind, node_id}
 

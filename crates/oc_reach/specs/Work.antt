@@ -1,5 +1,5 @@
 -- How far a walk has come: the best budgets so far, the answers that were given, and the entries that are left to hand on.
-use Rattle.std.specs.Prelude.{ℕ, ◌≡◌, ◌≤◌, ◌<◌, ◌+◌, ◌⊎◌, Bool, true, List, [], ◌∷◌, Option, Some, None, map, fold, length, option_map, is_some, if◌then◌else◌, IsTrue}
+use Rattle.std.specs.Prelude.{ℕ, ◌≡◌, ◌≤◌, ◌<◌, ◌+◌, ◌⊎◌, Bool, true, List, [], ◌∷◌, Option, Some, None, map, length, option_map, is_some, if◌then◌else◌, IsTrue}
 use Rattle.std.specs.List.{All, Contains}
 use Rattle.std.specs.FinMap.{find, is_sorted}
 use Rattle.oc_model.specs.declared.reach.Node.{Node}

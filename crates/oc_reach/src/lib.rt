@@ -14,3 +14,6 @@ pub use oc_model::reach::{ClassSettings, Node};
 pub use reaching::reached;
 pub use settings::Settings;
 pub use spread::Spread;
+
+#[cfg(test)]
+mod tests;

@@ -133,7 +133,13 @@ fn pass_on<P: Spread>(
     ensures answers { progress.new.answers.entries ≡ progress.old.answers.entries }
 {
     if let Some(named) = answer_of(&progress.answers, node) {
-        hand_on(spread, &mut progress.budgets, &mut progress.work, named, handed)?;
+        hand_on(
+            spread,
+            &mut progress.budgets,
+            &mut progress.work,
+            named,
+            handed,
+        )?;
     }
     Ok(())
 }

@@ -1,5 +1,5 @@
 -- A fault of memory comes after the call. The answer that is kept is that of the call.
-use Rattle.std.proofs.Common.{◌≡◌, [], ◌∷◌, is_some, false, Vec, Global, sym, subst, ◌∙◌}
+use Rattle.std.proofs.Common.{[], ◌∷◌, Vec, Global, sym, subst, ◌∙◌}
 use Rattle.std.proofs.lemmas.Result.{err_from_is_err_and}
 use Rattle.oc_model.specs.declared.reach.Node.{Node}
 use Rattle.oc_reach.specs.Work.{answers_of, IsAsked}

@@ -1,7 +1,6 @@
 -- The entry is put in its place, and stands in the work.
-use Rattle.std.proofs.Common.{◌≡◌, ◌<◌, ◌∙◌, sym, subst, ap, arith}
+use Rattle.std.proofs.Common.{◌<◌, ◌∙◌, sym, subst, arith}
 use Rattle.std.specs.BinaryHeap.{heap_items}
-use Rattle.std.specs.List.Sorted.{IsPermutation}
 use Rattle.oc_model.specs.Walks.{budget}
 use Rattle.oc_reach.specs.Work.{IsRaised}
 use Rattle.oc_reach.proofs.Tables.{entered}

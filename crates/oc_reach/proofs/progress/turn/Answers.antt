@@ -1,5 +1,5 @@
 -- A node with this budget is asked, once, and hands its budget on.
-use Rattle.std.proofs.Common.{◌≡◌, ◌≤◌, ℕ, List, [], ◌∷◌, ◌++◌, Vec, Global, sym, ap, subst, ◌∙◌, arith}
+use Rattle.std.proofs.Common.{◌≡◌, ◌≤◌, [], ◌∷◌, Vec, Global, sym, subst, ◌∙◌, arith}
 use Rattle.std.specs.List.{All}
 use Rattle.std.specs.BinaryHeap.{heap_items}
 use Rattle.std.proofs.lemmas.Result.{err_from_is_err_and}
@@ -7,7 +7,7 @@ use Rattle.std.proofs.lemmas.List.{append-nil}
 use Rattle.oc_model.specs.declared.reach.Node.{Node}
 use Rattle.oc_model.specs.Lists.{IsOneOf}
 use Rattle.oc_model.specs.Walks.{Walk, budget}
-use Rattle.oc_reach.specs.Work.{answers_of, newly, IsUnderWay, AreNew, Adds}
+use Rattle.oc_reach.specs.Work.{answers_of, newly, IsUnderWay, Adds}
 use Rattle.oc_reach.proofs.Turning.{node_inside, budget_fits, entry_live, passed_over, answered, turned, one_new, adds_newly}
 use Rattle.oc_reach.proofs.progress.turn.Goals as goal
 
@@ -80,7 +80,7 @@ returns-in_err-pass_on-clause-caused g c =
     let one : 1 ≤ c.args.budget = entry_live w g.P.Spread.tells r.0 r.1 _ t c.args.budget c.args.node _ r.2 in
     let adds = adds_newly w g.P.Spread.tells _ _ t c.args.node (omega arith) c.in_ok-ask.ensures.asked in
     let p = err_from_is_err_and c.from_residual-in_err-pass_on.result c.from_residual-in_err-pass_on.ensures.1 in
-    rw p.1 (_ , subst (g.P.Spread.Caused c.args.spread.now p.0 c.ask.new.spread) (append-nil _) (g.met.P.Spread.fails _ _ _ _ _ [] c.in_ok-ask.ensures.goes (g.met.P.Spread.memory _ p.0 p.2)), adds.new)
+    rw p.1 (_, subst (g.P.Spread.Caused c.args.spread.now p.0 c.ask.new.spread) (append-nil _) (g.met.P.Spread.fails _ _ _ _ _ [] c.in_ok-ask.ensures.goes (g.met.P.Spread.memory _ p.0 p.2)), adds.new)
 
 pub returns-clause-under_way : goal.returns-clause-under_way
 returns-clause-under_way g c = λ root depth s.
@@ -89,7 +89,7 @@ returns-clause-under_way g c = λ root depth s.
     let e : budget t c.args.node ≡ c.args.budget = omega arith in
     subst (λ es. IsUnderWay w g.P.Spread.tells root depth (answers_of (λ (v : Vec Node Global). v.items) es) c.pass_on.new.progress.budgets.entries (heap_items c.pass_on.new.progress.work)) (sym c.in_ok-pass_on.ensures.answers)
     (turned w g.P.Spread.tells root depth (g.P.Spread.walk c.ask.new.spread) (g.met.P.Spread.same _ _ _ c.in_ok-ask.ensures.goes) _ _ t c.pass_on.new.progress.budgets.entries c.args.node c.args.budget c.hand-handed.result (heap_items c.args.progress.now.work) (heap_items c.pass_on.new.progress.work)
-      e c.in_ok-ask.ensures.asked c.hand-handed.ensures c.in_ok-pass_on.ensures.table c.in_ok-pass_on.ensures.raises s)
+    e c.in_ok-ask.ensures.asked c.hand-handed.ensures c.in_ok-pass_on.ensures.table c.in_ok-pass_on.ensures.raises s)
 
 pub returns-clause-goes : goal.returns-clause-goes
 returns-clause-goes g c =

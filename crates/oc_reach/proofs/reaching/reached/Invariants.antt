@@ -1,5 +1,5 @@
 -- The walk is under way, and what was asked for is answered. Each entry of the work is paid for by a higher budget.
-use Rattle.std.proofs.Common.{◌≡◌, ℕ, ◌+◌, ◌-◌, ◌*◌, List, length, Vec, Global}
+use Rattle.std.proofs.Common.{◌+◌, ◌-◌, ◌*◌, List, length, Vec, Global}
 use Rattle.std.specs.BinaryHeap.{heap_items}
 use Rattle.oc_model.specs.declared.reach.Node.{Node}
 use Rattle.oc_reach.specs.Work.{answers_of, IsUnderWay, AreAnswered, all_budgets}
