@@ -5,3 +5,6 @@ mod planning;
 mod walking;
 
 pub use planning::{Walk, plan};
+
+#[cfg(test)]
+mod tests;

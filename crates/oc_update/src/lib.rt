@@ -6,3 +6,6 @@ mod planning;
 mod storing;
 
 pub use planning::{plan_delete, plan_store};
+
+#[cfg(test)]
+mod tests;
