@@ -1,0 +1,5 @@
+pub mod Finishing
+pub mod GraphLaws
+pub mod Raising
+pub mod Tables
+pub mod Turning

@@ -1,0 +1,5 @@
+pub mod Asking
+pub mod Drawn
+pub mod Graphs
+pub mod NodeOrder
+pub mod Work

@@ -1,0 +1,13 @@
+-- What the class of the node hands on.
+use Rattle.std.proofs.Common.{subst, ◌∙◌}
+use Rattle.oc_model.specs.Lists.{IsOneOf}
+use Rattle.oc_update.proofs.Rules.{delete_nodes, delete_hands}
+use Rattle.oc_update.proofs.deleting.DeletingSpread.hand.Goals as goal
+
+pub class_of-requires : goal.class_of-requires
+class_of-requires g c = let s = c.args.self.now in subst (IsOneOf c.args.node) (delete_nodes s.settings.now (g.G.Graph.shown s.graph.now)) c.requires.node
+
+pub returns : goal.returns
+returns g c =
+    let s = c.args.self.now in
+    c.one_if.ensures ∙ delete_hands s.settings.now (g.G.Graph.shown s.graph.now) c.args.node c.args._budget _ _ c.class_of.ensures c.of-class.ensures
