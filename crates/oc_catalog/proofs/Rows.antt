@@ -1,0 +1,85 @@
+-- Things with their count in front, and what the bytes of two things tell.
+use Rattle.std.proofs.Common.{◌≡◌, ◌∙◌, ap, sym, refl, subst, ℕ, ◌+◌, ◌-◌, ◌<◌, ◌≤◌, Bool, nat_lt, nat_le, IsTrue, List, [], ◌∷◌, ◌++◌, length, take, drop, arith, append_assoc, length-append, slice_index, ◌&&◌}
+use Rattle.std.specs.Prelude.{flat_map}
+use Rattle.std.specs.List.{list_all}
+use Rattle.std.specs.Int.{Width, w16, w32, to_be_bytes}
+use Rattle.std.proofs.lemmas.Bool.{and_parts, and_from, leb-true, le-leb}
+use Rattle.std.proofs.lemmas.List.{drop-drop, drop_more, take-append-drop, length-drop}
+use Rattle.oc_model.specs.Maps.{Text}
+use Rattle.oc_model.specs.Spelling.{Tells, counted, name_bytes, is_word}
+use Rattle.oc_model.proofs.Told.{counted_told}
+use Rattle.oc_model.proofs.Fronts.{first_same, rest_same}
+use Rattle.oc_marshal.specs.Places.{StandsAt, NothingAt, StandInRow, NoRowAt, is_pair, is_short, pair_bytes}
+use Rattle.oc_marshal.proofs.Standing.{only_one, short_told, word_told}
+use Rattle.oc_catalog.specs.Drafts.{are_few, are_many, is_short_name}
+
+-- ---- two things
+
+pub pair_told : {X Y : Type 0} (t : X → Bool) (s : X → List ℕ) (u : Y → Bool) (r : Y → List ℕ) → Tells (λ x. IsTrue (t x)) s → Tells (λ y. IsTrue (u y)) r
+    → Tells (λ p. IsTrue (is_pair t u p)) (pair_bytes s r)
+pair_told t s u r first second x y rest more p q e =
+    let a = and_parts (t x.0) (u x.1) p in
+    let b = and_parts (t y.0) (u y.1) q in
+    let f = first x.0 y.0 (r x.1 ++ rest) (r y.1 ++ more) a.0 b.0 (sym (append_assoc (s x.0) (r x.1) rest) ∙ e ∙ append_assoc (s y.0) (r y.1) more) in
+    let g = second x.1 y.1 rest more a.1 b.1 f.1 in
+    (λ i. (f.0 i, g.0 i), g.1)
+
+-- ---- many things, with their count in front
+
+module _ {X : Type 0} (w : Width) (small : ℕ → Bool) (t : X → Bool) (s : X → List ℕ) where
+  abbrev pub all_counted : List X → Bool
+  all_counted xs = small (length xs) && list_all t xs
+
+  pub counted_found : (bytes : List ℕ) (at from to count : ℕ) (xs : List X) → StandsAt small (to_be_bytes w) bytes at count from → StandInRow t s bytes from xs to → length xs ≡ count
+      → StandsAt all_counted (counted w s) bytes at xs to
+  counted_found bytes at from to count xs a b len = record {
+    passes = and_from (small (length xs)) (list_all t xs) (subst (λ n. IsTrue (small n)) (sym len) a.passes) b.passes;
+    spelled = a.spelled ∙ (λ i. to_be_bytes w (sym len i) ++ b.spelled i) ∙ sym (append_assoc (to_be_bytes w (length xs)) (flat_map s xs) (drop to bytes));
+    within = b.within;
+  }
+
+  pub no_count : (bytes : List ℕ) (at : ℕ) → NothingAt small (to_be_bytes w) bytes at → NothingAt all_counted (counted w s) bytes at
+  no_count bytes at none xs rest p e =
+      none (length xs) (flat_map s xs ++ rest) (and_parts (small (length xs)) (list_all t xs) p).0 (e ∙ append_assoc (to_be_bytes w (length xs)) (flat_map s xs) rest)
+
+  pub no_counted : (bytes : List ℕ) (at from count : ℕ) → Tells (λ n. IsTrue (small n)) (to_be_bytes w) → StandsAt small (to_be_bytes w) bytes at count from → NoRowAt t s bytes from count
+      → NothingAt all_counted (counted w s) bytes at
+  no_counted bytes at from count told a none xs rest p e =
+      let parts = and_parts (small (length xs)) (list_all t xs) p in
+      let one = only_one small (to_be_bytes w) bytes at from count (length xs) (flat_map s xs ++ rest) told a parts.0 (e ∙ append_assoc (to_be_bytes w (length xs)) (flat_map s xs) rest) in
+      none xs rest one.0 parts.1 (sym one.1)
+
+pub few_told : {X : Type 0} (t : X → Bool) (s : X → List ℕ) → Tells (λ x. IsTrue (t x)) s → Tells (λ xs. IsTrue (are_few t xs)) (counted w16 s)
+few_told t s each xs ys rest more p q e =
+    counted_told w16 (λ n. IsTrue (is_short n)) short_told t s each xs ys rest more
+    (and_parts (is_short (length xs)) (list_all t xs) p) (and_parts (is_short (length ys)) (list_all t ys) q) e
+
+pub many_told : {X : Type 0} (t : X → Bool) (s : X → List ℕ) → Tells (λ x. IsTrue (t x)) s → Tells (λ xs. IsTrue (are_many t xs)) (counted w32 s)
+many_told t s each xs ys rest more p q e =
+    counted_told w32 (λ n. IsTrue (is_word n)) word_told t s each xs ys rest more
+    (and_parts (is_word (length xs)) (list_all t xs) p) (and_parts (is_word (length ys)) (list_all t ys) q) e
+
+-- ---- names
+
+-- the byte at a place, and what stands behind it
+byte_first : (bytes : List ℕ) (at : ℕ) → at < length bytes → drop at bytes ≡ slice_index bytes at ∷ drop (at + 1) bytes
+byte_first bytes at lt = drop_more bytes at 0 lt
+
+pub name_found : (bytes name : List ℕ) (at len : ℕ) → at < length bytes → len ≡ slice_index bytes at → len ≤ 255 → at + 1 + len ≤ length bytes → name ≡ take len (drop (at + 1) bytes) → length name ≡ len
+    → StandsAt is_short_name name_bytes bytes at name (at + 1 + len)
+name_found bytes name at len lt first few within is size =
+    let behind : drop (at + 1) bytes ≡ name ++ drop (at + 1 + len) bytes =
+    sym (take-append-drop len (drop (at + 1) bytes)) ∙ (λ i. sym is i ++ drop len (drop (at + 1) bytes)) ∙ ap (λ l. name ++ l) (drop-drop len (at + 1) bytes) in
+    record {
+      passes = le-leb (length name) 255 (omega (arith, size, few));
+      spelled = byte_first bytes at lt ∙ (λ i. (sym first ∙ sym size) i ∷ behind i);
+      within = within;
+    }
+
+-- a name that stands there has the length and the bytes that were found
+pub name_short : (bytes name rest : List ℕ) (at : ℕ) → at < length bytes → length bytes - (at + 1) < slice_index bytes at → drop at bytes ≡ name_bytes name ++ rest → ⊥
+name_short bytes name rest at lt few e =
+    let same = sym (byte_first bytes at lt) ∙ e in
+    let len = first_same (slice_index bytes at) (length name) (drop (at + 1) bytes) (name ++ rest) same in
+    let behind = ap length (rest_same (slice_index bytes at) (length name) (drop (at + 1) bytes) (name ++ rest) same) in
+    absurd (omega (arith, len, behind, few, length-drop (at + 1) bytes, length-append name rest))
