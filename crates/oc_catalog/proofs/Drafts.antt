@@ -23,39 +23,9 @@ use Rattle.oc_catalog.specs.Drafts.{are_few, are_many, draft_bytes, entry_bytes,
 use Rattle.oc_catalog.specs.Telling.{classes_tell, entries_tell}
 use Rattle.oc_catalog.proofs.Rows.{few_told, many_told, pair_told}
 
--- ---- fields
-
-flags_tell : Tells (λ p. IsTrue (any p)) flags_bytes
-flags_tell x y rest more p q e =
-    let r = flags_told x.0 x.1 y.0 y.1 (first_same _ _ rest more e) in
-    (λ i. (r.0 i, r.1 i), rest_same _ _ rest more e)
-
-kinds_tell : Tells (λ k. IsTrue (any k)) kind_bytes
-kinds_tell j k rest more p q e = (kind_told j k (first_same (kind_tag j) (kind_tag k) rest more e), rest_same (kind_tag j) (kind_tag k) rest more e)
-
-marks_tell : Tells (λ p. IsTrue (is_pair any any p)) (pair_bytes flags_bytes kind_bytes)
-marks_tell = pair_told any flags_bytes any kind_bytes flags_tell kinds_tell
-
-labels_tell : Tells (λ l. IsTrue (is_label l)) label_bytes
-labels_tell = pair_told is_word (to_be_bytes w32) (is_pair any any) (pair_bytes flags_bytes kind_bytes) word_told marks_tell
+-- ---- fields and classes
 
 module _ (bytes : List ℕ) (at : ℕ) where
-  pub no_id : NothingAt is_word (to_be_bytes w32) bytes at → NothingAt is_label label_bytes bytes at
-  no_id = no_first is_word (to_be_bytes w32) (is_pair any any) (pair_bytes flags_bytes kind_bytes) bytes at
-
-  pub no_flags : (from id : ℕ) → StandsAt is_word (to_be_bytes w32) bytes at id from → NothingAt any flags_bytes bytes from → NothingAt is_label label_bytes bytes at
-  no_flags from id a none = no_second is_word (to_be_bytes w32) (is_pair any any) (pair_bytes flags_bytes kind_bytes) bytes at from id word_told a (no_first any flags_bytes any kind_bytes bytes from none)
-
-  pub no_kind : (from mid id : ℕ) (flags : Bool × Bool) → StandsAt is_word (to_be_bytes w32) bytes at id from → StandsAt any flags_bytes bytes from flags mid → NothingAt any kind_bytes bytes mid
-      → NothingAt is_label label_bytes bytes at
-  no_kind from mid id flags a b none =
-      no_second is_word (to_be_bytes w32) (is_pair any any) (pair_bytes flags_bytes kind_bytes) bytes at from id word_told a (no_second any flags_bytes any kind_bytes bytes from mid flags flags_tell b none)
-
-  pub label_found : (from mid to id : ℕ) (flags : Bool × Bool) (kind : Kind) → StandsAt is_word (to_be_bytes w32) bytes at id from → StandsAt any flags_bytes bytes from flags mid → StandsAt any kind_bytes bytes mid kind to
-      → StandsAt is_label label_bytes bytes at (id, (flags, kind)) to
-  label_found from mid to id flags kind a b c =
-      pair_found is_word (to_be_bytes w32) (is_pair any any) (pair_bytes flags_bytes kind_bytes) bytes at from to id (flags, kind) a (pair_found any flags_bytes any kind_bytes bytes from mid to flags kind b c)
-
   -- a field as a label and a name
   no_field : NothingAt (is_pair is_label is_short_name) (pair_bytes label_bytes name_bytes) bytes at → NothingAt is_field field_bytes bytes at
   no_field none f rest p e =
@@ -65,31 +35,9 @@ module _ (bytes : List ℕ) (at : ℕ) where
   pub no_label : NothingAt is_label label_bytes bytes at → NothingAt is_field field_bytes bytes at
   no_label none = no_field (no_first is_label label_bytes is_short_name name_bytes bytes at none)
 
-  pub no_field_name : (from : ℕ) (label : ℕ × ((Bool × Bool) × Kind)) → StandsAt is_label label_bytes bytes at label from → NothingAt is_short_name name_bytes bytes from → NothingAt is_field field_bytes bytes at
-  no_field_name from label a none = no_field (no_second is_label label_bytes is_short_name name_bytes bytes at from label labels_tell a none)
-
-  pub field_found : (from to id : ℕ) (current indexed : Bool) (kind : Kind) (name : List ℕ) → StandsAt is_label label_bytes bytes at (id, ((current, indexed), kind)) from → StandsAt is_short_name name_bytes bytes from name to
-      → StandsAt is_field field_bytes bytes at (record { id = id; name = name; kind = kind; current = current; indexed = indexed }) to
-  field_found from to id current indexed kind name a b =
-      let both = pair_found is_label label_bytes is_short_name name_bytes bytes at from to (id, ((current, indexed), kind)) name a b in
-      record {
-        passes = and_from (is_word id) (is_short_name name) (and_parts (is_word id) _ a.passes).0 b.passes;
-        spelled = both.spelled;
-        within = both.within;
-      }
-
-  -- ---- classes
-
+  -- a class as a parent, a name and fields
   no_class : NothingAt (is_pair is_word (is_pair is_short_name (are_few is_field))) (pair_bytes (to_be_bytes w32) (pair_bytes name_bytes (counted w16 field_bytes))) bytes at → NothingAt is_class class_bytes bytes at
   no_class none c rest p e = none (c.parent, (c.name, c.fields)) rest p e
-
-  pub no_parent : NothingAt is_word (to_be_bytes w32) bytes at → NothingAt is_class class_bytes bytes at
-  no_parent none = no_class (no_first is_word (to_be_bytes w32) (is_pair is_short_name (are_few is_field)) (pair_bytes name_bytes (counted w16 field_bytes)) bytes at none)
-
-  pub no_class_name : (from parent : ℕ) → StandsAt is_word (to_be_bytes w32) bytes at parent from → NothingAt is_short_name name_bytes bytes from → NothingAt is_class class_bytes bytes at
-  no_class_name from parent a none =
-      no_class (no_second is_word (to_be_bytes w32) (is_pair is_short_name (are_few is_field)) (pair_bytes name_bytes (counted w16 field_bytes)) bytes at from parent word_told a
-      (no_first is_short_name name_bytes (are_few is_field) (counted w16 field_bytes) bytes from none))
 
   pub no_fields : (from mid parent : ℕ) (name : List ℕ) → StandsAt is_word (to_be_bytes w32) bytes at parent from → StandsAt is_short_name name_bytes bytes from name mid
       → NothingAt (are_few is_field) (counted w16 field_bytes) bytes mid → NothingAt is_class class_bytes bytes at
@@ -97,36 +45,12 @@ module _ (bytes : List ℕ) (at : ℕ) where
       no_class (no_second is_word (to_be_bytes w32) (is_pair is_short_name (are_few is_field)) (pair_bytes name_bytes (counted w16 field_bytes)) bytes at from parent word_told a
       (no_second is_short_name name_bytes (are_few is_field) (counted w16 field_bytes) bytes from mid name (λ t u rest more p q e. name_told t u rest more e) b none))
 
-  pub class_found : (from mid to parent : ℕ) (name : List ℕ) (fields : List FieldDef) → StandsAt is_word (to_be_bytes w32) bytes at parent from → StandsAt is_short_name name_bytes bytes from name mid
-      → StandsAt (are_few is_field) (counted w16 field_bytes) bytes mid fields to → StandsAt is_class class_bytes bytes at (record { name = name; parent = parent; fields = fields }) to
-  class_found from mid to parent name fields a b c =
-      let all = pair_found is_word (to_be_bytes w32) (is_pair is_short_name (are_few is_field)) (pair_bytes name_bytes (counted w16 field_bytes)) bytes at from to parent (name, fields) a
-      (pair_found is_short_name name_bytes (are_few is_field) (counted w16 field_bytes) bytes from mid to name fields b c) in
-      record { passes = all.passes; spelled = all.spelled; within = all.within }
-
-  -- ---- lists
-
-  no_list : NothingAt (is_pair is_word (are_many is_word)) (pair_bytes (to_be_bytes w32) (counted w32 (to_be_bytes w32))) bytes at → NothingAt is_entry entry_bytes bytes at
-  no_list none l rest p e = none (l.id, l.segments) rest p e
-
-  pub no_list_id : NothingAt is_word (to_be_bytes w32) bytes at → NothingAt is_entry entry_bytes bytes at
-  no_list_id none = no_list (no_first is_word (to_be_bytes w32) (are_many is_word) (counted w32 (to_be_bytes w32)) bytes at none)
-
-  pub no_segments : (from id : ℕ) → StandsAt is_word (to_be_bytes w32) bytes at id from → NothingAt (are_many is_word) (counted w32 (to_be_bytes w32)) bytes from → NothingAt is_entry entry_bytes bytes at
-  no_segments from id a none = no_list (no_second is_word (to_be_bytes w32) (are_many is_word) (counted w32 (to_be_bytes w32)) bytes at from id word_told a none)
-
-  pub list_found : (from to id : ℕ) (segments : List ℕ) → StandsAt is_word (to_be_bytes w32) bytes at id from → StandsAt (are_many is_word) (counted w32 (to_be_bytes w32)) bytes from segments to
-      → StandsAt is_entry entry_bytes bytes at (record { id = id; segments = segments }) to
-  list_found from to id segments a b =
-      let both = pair_found is_word (to_be_bytes w32) (are_many is_word) (counted w32 (to_be_bytes w32)) bytes at from to id segments a b in
-      record { passes = both.passes; spelled = both.spelled; within = both.within }
-
 -- ---- the head
 
 next_small : (n : ℕ) → IsTrue (nat_le 1 n && nat_le n 2147483647) → IsTrue (is_word n)
 next_small n h = let small = leb-true n 2147483647 (and_parts (nat_le 1 n) (nat_le n 2147483647) h).1 in lt-ltb n (2 ^ 32) (omega (arith, small))
 
-pub heads_tell : Tells (λ h. IsTrue (is_head h)) head_bytes
+heads_tell : Tells (λ h. IsTrue (is_head h)) head_bytes
 heads_tell h k rest more p q e =
     let a = and_parts (nat_le 1 h.0 && nat_le h.0 2147483647) (is_word h.1) p in
     let b = and_parts (nat_le 1 k.0 && nat_le k.0 2147483647) (is_word k.1) q in
@@ -178,10 +102,6 @@ module _ (bytes : List ℕ) where
 
   pub no_head : NothingAt is_head head_bytes bytes 0 → (d : Draft) → SpellsDraft d bytes → ⊥
   no_head none = no_draft (no_first is_head head_bytes is_body body_bytes bytes 0 none)
-
-  pub no_classes : (from : ℕ) (head : ℕ × ℕ) → StandsAt is_head head_bytes bytes 0 head from → NothingAt (are_few is_class) (counted w16 class_bytes) bytes from → (d : Draft) → SpellsDraft d bytes → ⊥
-  no_classes from head a none =
-      no_draft (no_second is_head head_bytes is_body body_bytes bytes 0 from head heads_tell a (no_first (are_few is_class) (counted w16 class_bytes) (are_many is_entry) lists_bytes bytes from none))
 
   pub no_lists : (from mid : ℕ) (head : ℕ × ℕ) (classes : List ClassDef) → StandsAt is_head head_bytes bytes 0 head from → StandsAt (are_few is_class) (counted w16 class_bytes) bytes from classes mid
       → NothingAt (are_many is_entry) lists_bytes bytes mid → (d : Draft) → SpellsDraft d bytes → ⊥

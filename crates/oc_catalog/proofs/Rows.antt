@@ -26,29 +26,6 @@ pair_told t s u r first second x y rest more p q e =
 
 -- ---- many things, with their count in front
 
-module _ {X : Type 0} (w : Width) (small : ℕ → Bool) (t : X → Bool) (s : X → List ℕ) where
-  abbrev pub all_counted : List X → Bool
-  all_counted xs = small (length xs) && list_all t xs
-
-  pub counted_found : (bytes : List ℕ) (at from to count : ℕ) (xs : List X) → StandsAt small (to_be_bytes w) bytes at count from → StandInRow t s bytes from xs to → length xs ≡ count
-      → StandsAt all_counted (counted w s) bytes at xs to
-  counted_found bytes at from to count xs a b len = record {
-    passes = and_from (small (length xs)) (list_all t xs) (subst (λ n. IsTrue (small n)) (sym len) a.passes) b.passes;
-    spelled = a.spelled ∙ (λ i. to_be_bytes w (sym len i) ++ b.spelled i) ∙ sym (append_assoc (to_be_bytes w (length xs)) (flat_map s xs) (drop to bytes));
-    within = b.within;
-  }
-
-  pub no_count : (bytes : List ℕ) (at : ℕ) → NothingAt small (to_be_bytes w) bytes at → NothingAt all_counted (counted w s) bytes at
-  no_count bytes at none xs rest p e =
-      none (length xs) (flat_map s xs ++ rest) (and_parts (small (length xs)) (list_all t xs) p).0 (e ∙ append_assoc (to_be_bytes w (length xs)) (flat_map s xs) rest)
-
-  pub no_counted : (bytes : List ℕ) (at from count : ℕ) → Tells (λ n. IsTrue (small n)) (to_be_bytes w) → StandsAt small (to_be_bytes w) bytes at count from → NoRowAt t s bytes from count
-      → NothingAt all_counted (counted w s) bytes at
-  no_counted bytes at from count told a none xs rest p e =
-      let parts = and_parts (small (length xs)) (list_all t xs) p in
-      let one = only_one small (to_be_bytes w) bytes at from count (length xs) (flat_map s xs ++ rest) told a parts.0 (e ∙ append_assoc (to_be_bytes w (length xs)) (flat_map s xs) rest) in
-      none xs rest one.0 parts.1 (sym one.1)
-
 pub few_told : {X : Type 0} (t : X → Bool) (s : X → List ℕ) → Tells (λ x. IsTrue (t x)) s → Tells (λ xs. IsTrue (are_few t xs)) (counted w16 s)
 few_told t s each xs ys rest more p q e =
     counted_told w16 (λ n. IsTrue (is_short n)) short_told t s each xs ys rest more
@@ -75,11 +52,3 @@ name_found bytes name at len lt first few within is size =
       spelled = byte_first bytes at lt ∙ (λ i. (sym first ∙ sym size) i ∷ behind i);
       within = within;
     }
-
--- a name that stands there has the length and the bytes that were found
-pub name_short : (bytes name rest : List ℕ) (at : ℕ) → at < length bytes → length bytes - (at + 1) < slice_index bytes at → drop at bytes ≡ name_bytes name ++ rest → ⊥
-name_short bytes name rest at lt few e =
-    let same = sym (byte_first bytes at lt) ∙ e in
-    let len = first_same (slice_index bytes at) (length name) (drop (at + 1) bytes) (name ++ rest) same in
-    let behind = ap length (rest_same (slice_index bytes at) (length name) (drop (at + 1) bytes) (name ++ rest) same) in
-    absurd (omega (arith, len, behind, few, length-drop (at + 1) bytes, length-append name rest))

@@ -59,21 +59,8 @@ fn catalog_shown(alloc: Global, catalog: &Catalog) -> Result<String, AllocError>
     format!(in alloc; "{next} {next_field} {classes}{lists}")
 }
 
-// The bytes are a catalog's, which is shown so, and are written again.
-fn assert_read(rt: &HostRuntime, bytes: &[u8], want: &str) -> Result<(), Fail> {
-    let alloc = rt.alloc();
-    let catalog = read_catalog(alloc, bytes)?;
-    let shown = catalog_shown(alloc, &catalog)?;
-    assert_eq!(rt; shown.as_str(), want);
-    let again = write_catalog(alloc, &catalog)?;
-    assert_eq!(rt; again.as_slice(), bytes);
-    Ok(())
-}
-
-fn assert_refused(rt: &HostRuntime, why: &str, bytes: &[u8]) -> Result<(), Fail> {
-    let fault = read_catalog(rt.alloc(), bytes).err();
-    assert_eq!(rt; fault, Some(CatalogFault::NotACatalog), "{why}");
-    Ok(())
+fn is_refused(alloc: Global, bytes: &[u8]) -> bool {
+    matches!(read_catalog(alloc, bytes), Err(CatalogFault::NotACatalog))
 }
 
 #[test]
@@ -92,7 +79,11 @@ fn a_catalog_has_its_bytes(rt: HostRuntime) -> Result<(), Fail> {
             "2 3 Pilot:0 1 name true false 2 points true true; 0:2, 2:4,3,",
         ),
     ] {
-        assert_read(&rt, bytes, want)?;
+        let catalog = read_catalog(rt.alloc(), bytes)?;
+        let shown = catalog_shown(rt.alloc(), &catalog)?;
+        assert_eq!(rt; shown.as_str(), want);
+        let again = write_catalog(rt.alloc(), &catalog)?;
+        assert_eq!(rt; again.as_slice(), bytes);
     }
     Ok(())
 }
@@ -125,7 +116,7 @@ fn each_byte_is_judged(rt: HostRuntime) -> Result<(), Fail> {
     ] {
         let mut bytes = Vec::from_slice(rt.alloc(), PILOT)?;
         bytes[at] = byte;
-        assert_refused(&rt, why, &bytes)?;
+        assert!(rt; is_refused(rt.alloc(), &bytes), "{why}");
     }
     Ok(())
 }
@@ -158,7 +149,7 @@ fn the_lists_are_judged(rt: HostRuntime) -> Result<(), Fail> {
     ] {
         let mut bytes = Vec::from_slice(rt.alloc(), &INDEXED[..FRONT])?;
         bytes.extend_from_slice(lists)?;
-        assert_refused(&rt, why, &bytes)?;
+        assert!(rt; is_refused(rt.alloc(), &bytes), "{why}");
     }
     Ok(())
 }
@@ -167,17 +158,19 @@ fn the_lists_are_judged(rt: HostRuntime) -> Result<(), Fail> {
 fn an_array_has_no_index(rt: HostRuntime) -> Result<(), Fail> {
     let mut bytes = Vec::from_slice(rt.alloc(), INDEXED)?;
     bytes[39] = 20;
-    assert_refused(&rt, "an indexed array", &bytes)
+    assert!(rt; is_refused(rt.alloc(), &bytes));
+    Ok(())
 }
 
 #[test]
 fn no_front_is_a_catalog(rt: HostRuntime) -> Result<(), Fail> {
     for len in 0..INDEXED.len() {
-        assert_refused(&rt, "cut off", &INDEXED[..len])?;
+        assert!(rt; is_refused(rt.alloc(), &INDEXED[..len]), "{len}");
     }
     let mut bytes = Vec::from_slice(rt.alloc(), INDEXED)?;
     bytes.push(0)?;
-    assert_refused(&rt, "a byte more", &bytes)
+    assert!(rt; is_refused(rt.alloc(), &bytes));
+    Ok(())
 }
 
 // A catalog of one class without fields, whose name has so many letters.
@@ -202,7 +195,7 @@ fn a_name_has_1_to_64_bytes(rt: HostRuntime) -> Result<(), Fail> {
     }
     for len in [0, 65, 255] {
         let bytes = with_name(rt.alloc(), len)?;
-        assert_refused(&rt, "a name too short or too long", &bytes)?;
+        assert!(rt; is_refused(rt.alloc(), &bytes), "{len}");
     }
     Ok(())
 }
