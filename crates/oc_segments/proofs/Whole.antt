@@ -53,6 +53,9 @@ size_small n h = let few = leb-true n 512 (and_parts (nat_le 1 n) (nat_le n 512)
 sizes_tell : Tells (λ n. IsTrue (is_size n)) (to_be_bytes w16)
 sizes_tell m n rest more p q e = short_told m n rest more (size_small m p) (size_small n q) e
 
+pub no_short : (bytes : List ℕ) (at : ℕ) → NothingAt is_short (to_be_bytes w16) bytes at → NothingAt is_size (to_be_bytes w16) bytes at
+no_short bytes at none n rest p e = none n rest (size_small n p) e
+
 nothing_behind : (xs : List ℕ) → xs ++ [] ≡ xs
 nothing_behind [] = refl
 nothing_behind (x ∷ xs) = ap (λ l. x ∷ l) (nothing_behind xs)
@@ -71,7 +74,7 @@ module _ {X : Type 0} (cmp : X → X → Ordering) (test : X → Bool) (spell : 
         none es [] one.0 (s.is).each (sym one.1 ∙ sym (nothing_behind (flat_map spell es)))
 
     module _ (tells : Tells (λ x. IsTrue (test x)) spell) (from to count : ℕ) (items : List X)
-      (a : StandsAt is_size (to_be_bytes w16) bytes 0 count from) (row : StandInRow test spell bytes from items to) (len : length items ≡ count) where
+        (a : StandsAt is_size (to_be_bytes w16) bytes 0 count from) (row : StandInRow test spell bytes from items to) (len : length items ≡ count) where
       front : bytes ≡ segment_bytes spell items ++ drop to bytes
       front = a.spelled ∙ (λ i. to_be_bytes w16 (sym len i) ++ row.spelled i) ∙ sym (append_assoc (to_be_bytes w16 (length items)) (flat_map spell items) (drop to bytes))
 

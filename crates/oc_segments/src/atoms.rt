@@ -154,11 +154,7 @@ fn natural_at<const W: usize>(bytes: &[u8], at: usize) -> Option<(i128, usize)>
 }
 
 /// A length and so many bytes of UTF-8.
-fn string_at(
-    alloc: Global,
-    bytes: &[u8],
-    at: usize,
-) -> Result<Option<(Txt, usize)>, AllocError>
+fn string_at(alloc: Global, bytes: &[u8], at: usize) -> Result<Option<(Txt, usize)>, AllocError>
     requires { at ≤ length bytes.now }
     ensures found { IfOk result (λ f. IfSome f (λ p. StandsAt is_string string_bytes bytes.now at p.0 p.1)) }
     ensures none { IfOk result (λ f. IfNone f (NothingAt is_string string_bytes bytes.now at)) }

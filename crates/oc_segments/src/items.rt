@@ -58,7 +58,7 @@ impl Item for ExtentItem {
     ghost spell = { extent_spelling };
 
     fn before(&self, other: &Self) -> bool {
-        self.compare(other).is_lt()
+        self.number < other.number
     }
 
     fn put(&self, _base: Option<Base>, out: &mut Vec<u8>) -> Result<(), AllocError> {
@@ -109,9 +109,7 @@ impl Item for IndexItem {
     }
 
     fn put(&self, base: Option<Base>, out: &mut Vec<u8>) -> Result<(), AllocError> {
-        let Some(base) = base else {
-            unreachable!()
-        };
+        let Some(base) = base else { unreachable!() };
         put_atom(out, base, &self.key)?;
         out.extend_from_slice(&self.number.to_be_bytes())?;
         Ok(())

@@ -179,7 +179,11 @@ fn lists_of_fields_are_judged(rt: HostRuntime) -> Result<(), Fail> {
             b"\0\x02\x01\0\0\0\0\0\0\0\x01\0\0\0\0\x02",
         ),
         ("two for a truth value", Base::Bool, b"\0\x01\x02\0\0\0\x01"),
-        ("two in front of a text", Base::Text, b"\0\x01\x02\0\0\0\x01"),
+        (
+            "two in front of a text",
+            Base::Text,
+            b"\0\x01\x02\0\0\0\x01",
+        ),
         (
             "no UTF-8",
             Base::Text,

@@ -26,11 +26,7 @@ pub fn write_segment<E: Item>(
     Ok(out)
 }
 
-fn put_items<E: Item>(
-    items: &[E],
-    base: Option<Base>,
-    out: &mut Vec<u8>,
-) -> Result<(), AllocError>
+fn put_items<E: Item>(items: &[E], base: Option<Base>, out: &mut Vec<u8>) -> Result<(), AllocError>
     requires { IsTrue (list_all (E.fits base) items.now) }
     ensures { OnOk result (out.new.items ≡ out.old.items ++ flat_map (E.spell base) items.now) }
 {
