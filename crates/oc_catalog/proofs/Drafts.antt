@@ -1,25 +1,20 @@
 -- What the bytes of a draft tell, and where none stands.
-use Rattle.std.proofs.Common.{◌≡◌, ◌∙◌, ap, sym, refl, ℕ, ◌<◌, ◌≤◌, ◌^◌, Bool, nat_lt, nat_le, ◌&&◌, IsTrue, List, [], ◌∷◌, ◌++◌, length, drop, arith, append_assoc, Option, Some, None}
+use Rattle.std.proofs.Common.{◌≡◌, ◌∙◌, ap, sym, refl, ℕ, ◌<◌, ◌≤◌, ◌^◌, Bool, nat_le, ◌&&◌, IsTrue, List, [], ◌∷◌, ◌++◌, length, drop, arith, Option, Some, None}
 use Rattle.std.specs.Prelude.{IfNone}
 use Rattle.std.specs.Int.{w16, w32, to_be_bytes}
-use Rattle.std.proofs.lemmas.Bool.{and_parts, and_from, leb-true, ltb-true, le-leb, lt-ltb}
+use Rattle.std.proofs.lemmas.Bool.{and_parts, and_from, leb-true, lt-ltb}
 use Rattle.std.proofs.lemmas.List.{length-drop}
 use Rattle.std.proofs.Math.ListN.{drop_of_length-le}
-use Rattle.oc_model.specs.declared.value.Kind.{Kind}
-use Rattle.oc_model.specs.declared.schema.FieldDef.{FieldDef}
 use Rattle.oc_model.specs.declared.schema.ClassDef.{ClassDef}
-use Rattle.oc_model.specs.Kinds.{kind_tag}
 use Rattle.oc_model.specs.Spelling.{Tells, counted, class_bytes, field_bytes, name_bytes, is_word}
-use Rattle.oc_model.proofs.CatalogTold.{flags_told, name_told}
-use Rattle.oc_model.proofs.Told.{kind_told}
-use Rattle.oc_model.proofs.Fronts.{first_same, rest_same}
-use Rattle.oc_marshal.specs.Places.{StandsAt, NothingAt, any, is_pair, pair_bytes}
-use Rattle.oc_marshal.specs.Records.{kind_bytes}
+use Rattle.oc_model.proofs.CatalogTold.{name_told}
+use Rattle.oc_model.proofs.Fronts.{rest_same}
+use Rattle.oc_marshal.specs.Places.{StandsAt, NothingAt, is_pair, pair_bytes}
 use Rattle.oc_marshal.proofs.Parts.{no_first, no_second, pair_found}
 use Rattle.oc_marshal.proofs.Standing.{word_told}
 use Rattle.oc_catalog.specs.declared.catalog.ListEntry.{ListEntry}
 use Rattle.oc_catalog.specs.declared.reading.Draft.{Draft}
-use Rattle.oc_catalog.specs.Drafts.{are_few, are_many, draft_bytes, entry_bytes, flags_bytes, head_bytes, is_class, is_draft, is_entry, is_field, is_head, is_label, is_short_name, label_bytes, SpellsDraft}
+use Rattle.oc_catalog.specs.Drafts.{are_few, are_many, draft_bytes, entry_bytes, head_bytes, is_class, is_entry, is_field, is_head, is_label, is_short_name, label_bytes, SpellsDraft}
 use Rattle.oc_catalog.specs.Telling.{classes_tell, entries_tell}
 use Rattle.oc_catalog.proofs.Rows.{few_told, many_told, pair_told}
 

@@ -1,5 +1,5 @@
 -- A draft whose classes and lists keep the rules is a catalog, and each catalog is such a draft.
-use Rattle.std.proofs.Common.{◌≡◌, ◌∙◌, ap, sym, refl, subst, true, false, true≢false, ℕ, ◌<◌, ◌≤◌, ◌^◌, Bool, nat_lt, nat_le, ◌&&◌, IsTrue, List, [], ◌∷◌, ◌++◌, length, map, arith, append_assoc, Option, Some, None}
+use Rattle.std.proofs.Common.{◌≡◌, ◌∙◌, ap, sym, refl, subst, true, false, true≢false, ℕ, ◌^◌, Bool, nat_lt, nat_le, ◌&&◌, IsTrue, List, [], ◌∷◌, ◌++◌, length, map, arith, Some, None}
 use Rattle.std.specs.Prelude.{flat_map, if◌then◌else◌}
 use Rattle.std.specs.List.{list_all}
 use Rattle.std.specs.Int.{w16, w32, to_be_bytes}
@@ -22,8 +22,8 @@ use Rattle.oc_schema.specs.Drafts.{schema_of}
 use Rattle.oc_catalog.specs.declared.catalog.Catalog.{Catalog}
 use Rattle.oc_catalog.specs.declared.catalog.ListEntry.{ListEntry}
 use Rattle.oc_catalog.specs.declared.reading.Draft.{Draft}
-use Rattle.oc_catalog.specs.Catalogs.{list_ids, lists_keep, segments_of, AreLists, IsNext, IsWhole, SpellsCatalog}
-use Rattle.oc_catalog.specs.Drafts.{are_few, are_many, draft_bytes, entry_bytes, head_bytes, is_class, is_draft, is_entry, is_field, is_head, is_short_name, list_of, SpellsDraft}
+use Rattle.oc_catalog.specs.Catalogs.{list_ids, lists_keep, segments_of, AreLists, SpellsCatalog}
+use Rattle.oc_catalog.specs.Drafts.{are_few, are_many, draft_bytes, head_bytes, is_class, is_entry, is_head, is_short_name, list_of, SpellsDraft}
 
 -- ---- what the rules of a schema say of its bytes
 

@@ -1,16 +1,13 @@
 -- Things with their count in front, and what the bytes of two things tell.
-use Rattle.std.proofs.Common.{◌≡◌, ◌∙◌, ap, sym, refl, subst, ℕ, ◌+◌, ◌-◌, ◌<◌, ◌≤◌, Bool, nat_lt, nat_le, IsTrue, List, [], ◌∷◌, ◌++◌, length, take, drop, arith, append_assoc, length-append, slice_index, ◌&&◌}
-use Rattle.std.specs.Prelude.{flat_map}
+use Rattle.std.proofs.Common.{◌≡◌, ◌∙◌, ap, sym, ℕ, ◌+◌, ◌-◌, ◌<◌, ◌≤◌, Bool, IsTrue, List, ◌∷◌, ◌++◌, length, take, drop, arith, append_assoc, slice_index}
 use Rattle.std.specs.List.{list_all}
-use Rattle.std.specs.Int.{Width, w16, w32, to_be_bytes}
-use Rattle.std.proofs.lemmas.Bool.{and_parts, and_from, leb-true, le-leb}
-use Rattle.std.proofs.lemmas.List.{drop-drop, drop_more, take-append-drop, length-drop}
-use Rattle.oc_model.specs.Maps.{Text}
+use Rattle.std.specs.Int.{w16, w32}
+use Rattle.std.proofs.lemmas.Bool.{and_parts, le-leb}
+use Rattle.std.proofs.lemmas.List.{drop-drop, drop_more, take-append-drop}
 use Rattle.oc_model.specs.Spelling.{Tells, counted, name_bytes, is_word}
 use Rattle.oc_model.proofs.Told.{counted_told}
-use Rattle.oc_model.proofs.Fronts.{first_same, rest_same}
-use Rattle.oc_marshal.specs.Places.{StandsAt, NothingAt, StandInRow, NoRowAt, is_pair, is_short, pair_bytes}
-use Rattle.oc_marshal.proofs.Standing.{only_one, short_told, word_told}
+use Rattle.oc_marshal.specs.Places.{StandsAt, is_pair, is_short, pair_bytes}
+use Rattle.oc_marshal.proofs.Standing.{short_told, word_told}
 use Rattle.oc_catalog.specs.Drafts.{are_few, are_many, is_short_name}
 
 -- ---- two things

@@ -4,7 +4,6 @@ use Rattle.std.specs.List.{list_all}
 use Rattle.std.specs.Ordering.{nat_cmp}
 use Rattle.oc_model.specs.Lists.{sorted}
 use Rattle.oc_model.specs.Schemas.{Schema}
-use Rattle.oc_model.specs.declared.schema.FieldDef.{FieldDef}
 use Rattle.oc_model.specs.declared.schema.ClassDef.{ClassDef}
 use Rattle.oc_model.specs.Maps.{same}
 use Rattle.oc_model.specs.SchemaRules.{are_apart, keeps_rules}
@@ -41,12 +40,12 @@ abbrev pub IsNext : ℕ → Type 0
 IsNext n = (1 ≤ n) × (n ≤ 2147483647)
 
 -- A catalog of the grammar: its next number is one, its schema keeps the rules, and its lists are those of the schema.
-pub record IsWhole (c : Catalog) : Type 0 where
+pub record IsOfGrammar (c : Catalog) : Type 0 where
   pub next : IsNext c.next
   pub schema : IsTrue (keeps_rules c.schema)
   pub lists : AreLists c.schema c.lists
 
 -- the bytes are those of the catalog, with nothing behind them
 pub record SpellsCatalog (c : Catalog) (b : List ℕ) : Type 0 where
-  pub is : IsWhole c
+  pub is : IsOfGrammar c
   pub bytes : b ≡ catalog_bytes c.next c.schema (map list_of c.lists)

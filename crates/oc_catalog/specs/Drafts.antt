@@ -1,11 +1,11 @@
 -- A catalog whose classes and lists nobody has judged yet, and the parts of its bytes.
-use Rattle.std.specs.Prelude.{◌≡◌, ℕ, ◌+◌, ◌&&◌, ◌^◌, nat_le, nat_lt, Bool, true, IsTrue, List, [], ◌∷◌, ◌++◌, length, if◌then◌else◌}
+use Rattle.std.specs.Prelude.{◌≡◌, ℕ, ◌+◌, ◌&&◌, nat_le, Bool, IsTrue, List, [], ◌∷◌, ◌++◌, length, if◌then◌else◌}
 use Rattle.std.specs.List.{list_all}
 use Rattle.std.specs.Int.{w16, w32, to_be_bytes}
 use Rattle.oc_model.specs.declared.schema.FieldDef.{FieldDef}
 use Rattle.oc_model.specs.declared.schema.ClassDef.{ClassDef}
 use Rattle.oc_model.specs.Maps.{Text}
-use Rattle.oc_model.specs.Spelling.{counted, class_bytes, field_bytes, list_bytes, is_list, is_word}
+use Rattle.oc_model.specs.Spelling.{counted, class_bytes, list_bytes, is_word}
 use Rattle.oc_model.specs.declared.value.Kind.{Kind}
 use Rattle.oc_marshal.specs.Places.{any, is_pair, is_short, pair_bytes}
 use Rattle.oc_marshal.specs.Records.{kind_bytes}

@@ -1,5 +1,5 @@
 -- An entry of a field's list: a value, and a number behind it.
-use Rattle.std.proofs.Common.{◌≡◌, ℕ, ◌&&◌, IsTrue, List, ◌++◌, Some}
+use Rattle.std.proofs.Common.{ℕ, ◌&&◌, IsTrue, List, Some}
 use Rattle.std.specs.Int.{w32, to_be_bytes}
 use Rattle.std.proofs.lemmas.Bool.{and_parts, and_from}
 use Rattle.oc_model.specs.declared.value.Base.{Base}

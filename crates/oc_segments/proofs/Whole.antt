@@ -1,7 +1,6 @@
 -- What the bytes of a segment tell, and where none stands.
-use Rattle.std.proofs.Common.{◌≡◌, ◌∙◌, ap, sym, refl, subst, ℕ, ◌<◌, ◌≤◌, ◌^◌, Bool, true, false, true≢false, nat_lt, nat_le, ◌&&◌, IsTrue, List, [], ◌∷◌, ◌++◌, length, drop, arith, append_assoc}
+use Rattle.std.proofs.Common.{◌≡◌, ◌∙◌, ap, sym, refl, subst, ℕ, ◌<◌, ◌≤◌, ◌^◌, Bool, true, false, true≢false, nat_le, IsTrue, List, [], ◌∷◌, ◌++◌, length, drop, arith, append_assoc}
 use Rattle.std.specs.Prelude.{flat_map}
-use Rattle.std.specs.List.{list_all}
 use Rattle.std.specs.Cmp.{IsTotalOrder}
 use Rattle.std.specs.Int.{w16, to_be_bytes}
 use Rattle.std.specs.Ordering.{is_lt}
@@ -11,12 +10,12 @@ use Rattle.std.proofs.lemmas.Bool.{and_parts, and_from, leb-true, le-leb, lt-ltb
 use Rattle.std.proofs.lemmas.List.{length-drop}
 use Rattle.std.proofs.Math.ListN.{drop_of_length-le}
 use Rattle.oc_chunks.specs.Ascending.{Each, IsAscending}
-use Rattle.oc_model.specs.Spelling.{Tells, counted, segment_bytes}
+use Rattle.oc_model.specs.Spelling.{Tells, segment_bytes}
 use Rattle.oc_model.proofs.Told.{counted_told}
 use Rattle.oc_model.proofs.Elements.{weaker}
 use Rattle.oc_marshal.specs.Places.{StandsAt, NothingAt, StandInRow, NoRowAt, is_short}
 use Rattle.oc_marshal.proofs.Standing.{only_one, short_told}
-use Rattle.oc_segments.specs.Segments.{are_sized, is_below, is_rising, is_size, AreEntries, SpellsSegment}
+use Rattle.oc_segments.specs.Segments.{is_below, is_rising, is_size, AreEntries, SpellsSegment}
 
 -- ---- the order
 

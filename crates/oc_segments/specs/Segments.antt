@@ -20,13 +20,9 @@ pub record SpellsSegment {X : Type 0} (cmp : X → X → Ordering) (test : X →
 
 -- ---- the parts of a segment
 
--- 1 to 512 entries
+-- 1 to 512 entries make a segment
 abbrev pub is_size : ℕ → Bool
 is_size n = nat_le 1 n && nat_le n 512
-
--- 1 to 512 entries that pass the test
-abbrev pub are_sized : {X : Type 0} → (X → Bool) → List X → Bool
-are_sized test entries = is_size (length entries) && list_all test entries
 
 -- the first entry, if there is one, is greater
 abbrev pub is_below : {X : Type 0} → (X → X → Ordering) → X → List X → Bool

@@ -1,11 +1,10 @@
 -- The bytes of an entry tell it.
-use Rattle.std.specs.Prelude.{◌≡◌, ℕ, ◌&&◌, IsTrue, List, ◌++◌, Option, None, Some}
+use Rattle.std.specs.Prelude.{IsTrue, Option, None, Some}
 use Rattle.std.proofs.lemmas.Bool.{and_parts}
 use Rattle.oc_model.specs.declared.value.Base.{Base}
 use Rattle.oc_model.specs.Spelling.{Tells}
 use Rattle.oc_model.proofs.Told.{extent_told, indexed_told}
 use Rattle.oc_marshal.specs.Records.{is_text}
-use Rattle.oc_index.specs.declared.items.ExtentItem.{ExtentItem}
 use Rattle.oc_index.specs.declared.items.IndexItem.{IndexItem}
 use Rattle.oc_segments.specs.Items.{extent_fits, extent_spelling, index_fits, index_spelling, index_stands}
 

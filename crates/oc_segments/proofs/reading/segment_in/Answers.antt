@@ -1,6 +1,6 @@
 use Rattle.std.proofs.Common.{◌≡◌, ◌≤◌, true, false, length, rules}
 use Rattle.oc_marshal.specs.Places.{NoRowAt, StandInRow}
-use Rattle.oc_segments.specs.Segments.{is_rising, SpellsSegment}
+use Rattle.oc_segments.specs.Segments.{is_rising}
 use Rattle.oc_segments.proofs.Whole.{no_size, no_items, none_behind, none_rising, segment_found, segment_only, still_entries}
 use Rattle.oc_segments.proofs.reading.segment_in.Goals as goal
 
