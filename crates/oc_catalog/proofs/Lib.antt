@@ -1,0 +1,4 @@
+pub mod Rows
+pub mod Drafts
+pub mod Numbered
+pub mod Judged

@@ -1,0 +1,3 @@
+pub mod Catalogs
+pub mod Drafts
+pub mod Telling
