@@ -12,3 +12,4 @@ pub mod Rotated
 pub mod StandingIn
 pub mod Views
 pub mod Located
+pub mod Looking

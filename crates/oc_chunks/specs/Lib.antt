@@ -1,5 +1,6 @@
 pub mod Adding
 pub mod Ascending
+pub mod Between
 pub mod Places
 pub mod Reading
 pub mod Removing

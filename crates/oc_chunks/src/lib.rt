@@ -2,6 +2,7 @@
 #![tactic(auto)]
 
 mod adding;
+mod between;
 mod cutting;
 mod editing;
 mod entry;

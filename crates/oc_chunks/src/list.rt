@@ -1,12 +1,15 @@
 //! The list in chunks.
 
-ghost use Rattle.std.specs.Prelude.{◌≡◌, [], map, IfOk, OnOk, OnErr};
-ghost use Rattle.std.specs.List.{list_any, flat_map};
+ghost use Rattle.std.specs.Prelude.{◌≡◌, ◌^◌, ◌-◌, [], min, length, filter, map, IfOk, OnOk, OnErr};
+ghost use Rattle.std.specs.List.{find as find_in, list_any, flat_map};
+ghost use Rattle.std.specs.Option.{option_map};
 ghost use Rattle.std.specs.Ordering.{is_eq};
+ghost use Rattle.oc_chunks.specs.Between.{is_at, is_between};
 ghost use Rattle.oc_chunks.specs.Ascending.{entered, Each, IsAscending};
 ghost use Rattle.oc_chunks.specs.Reading.{chunk_of};
 ghost use Rattle.oc_chunks.specs.Chunks.{IsCutFrom, IsSizedChunk, joined, left, numbers as numbers_of};
 
+use crate::between::{self, len_of, slices, span_between};
 use crate::entry::{Cut, Entry};
 use crate::piece::Piece;
 use crate::reading::{ChunkView, views};
@@ -53,6 +56,34 @@ impl<E: Entry> ChunkList<E> {
         ensures ascending { IsAscending E.order (joined self.now.chunks) }
     {
         views(alloc, self.pieces.as_slice())
+    }
+
+    /// The entry at the place.
+    pub fn find<C: Cut<E>>(&self, cut: &C) -> Option<&E>
+        ensures { option_map (λ e. e.now) result ≡ find_in (is_at (C.side cut.now)) (joined self.now.chunks) }
+    {
+        between::find(self.pieces.as_slice(), cut)
+    }
+
+    /// How many entries lie behind the low place and not behind the high one, at most 2^64 - 1. It
+    /// searches at both ends, and counts by chunks between them.
+    pub fn count<C: Cut<E>>(&self, low: &C, high: &C) -> u64
+        ensures { result ≡ min (length (filter (is_between (C.side low.now) (C.side high.now)) (joined self.now.chunks))) (2 ^ 64 - 1) }
+    {
+        len_of(&span_between(self.pieces.as_slice(), low, high))
+    }
+
+    /// The entries behind the low place and not behind the high one, in slices. It searches at both
+    /// ends.
+    pub fn between<'a, C: Cut<E>>(
+        &'a self,
+        alloc: Global,
+        low: &C,
+        high: &C,
+    ) -> Result<Vec<&'a [E]>, AllocError>
+        ensures { IfOk result (λ v. flat_map (λ s. s.now) v.items ≡ filter (is_between (C.side low.now) (C.side high.now)) (joined self.now.chunks)) }
+    {
+        slices(alloc, &span_between(self.pieces.as_slice(), low, high))
     }
 
     /// Puts the entry at its place, if none is equal to it. A chunk that comes to more than the
