@@ -12,4 +12,5 @@ pub mod Rotated
 pub mod StandingIn
 pub mod Views
 pub mod Located
+pub mod Opened
 pub mod Looking

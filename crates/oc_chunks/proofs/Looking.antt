@@ -1,5 +1,5 @@
 -- What lies before a place, at it and behind it.
-use Rattle.std.proofs.Common.{◌≡◌, ◌⊎◌, ◌∙◌, ap, ap₂, sym, refl, subst, ℕ, zero, suc, ◌+◌, ◌-◌, ◌<◌, ◌≤◌, Bool, true, false, cond, not, ◌&&◌, ◌||◌, List, [], ◌∷◌, ◌++◌, length, take, drop, filter, get_or, flat_map, Some, None, arith, append-nil, append_assoc, length-append, length-drop, take-append-drop}
+use Rattle.std.proofs.Common.{◌≡◌, ◌⊎◌, ◌∙◌, ap, ap₂, sym, refl, subst, ℕ, zero, suc, ◌+◌, ◌-◌, ◌<◌, ◌≤◌, Bool, true, false, cond, not, ◌&&◌, List, [], ◌∷◌, ◌++◌, length, take, drop, filter, get_or, flat_map, Some, None, arith, append-nil, append_assoc, length-append, take-append-drop}
 use Rattle.std.specs.List.{find, AllWithin}
 use Rattle.std.specs.Ordering.{is_eq, is_gt}
 use Rattle.std.specs.Cmp.{IsTotalOrder}
@@ -11,14 +11,14 @@ use Rattle.std.proofs.lemmas.List.Concat.{flat_map-append}
 use Rattle.std.proofs.lemmas.List.Elements.{filter-append}
 use Rattle.oc_chunks.specs.declared.piece.Piece.{Piece}
 use Rattle.oc_chunks.specs.Ascending.{Each, IsAscending}
-use Rattle.oc_chunks.specs.Between.{is_at, is_past, is_between, entries_in}
+use Rattle.oc_chunks.specs.Between.{is_at, is_past, entries_in}
 use Rattle.oc_chunks.specs.Chunks.{Chunked, joined}
 use Rattle.oc_chunks.specs.Pieces.{present, shown, last_is, is_upto, IsSound, IsSized, Place, view}
 use Rattle.oc_chunks.proofs.Eaches.{each_append, each_front, each_rest, each_more, each_within, each_behind, pairs_front, pairs_rest}
 use Rattle.oc_chunks.proofs.Views.{entries_of, each_entry, joined_now}
 use Rattle.oc_chunks.proofs.Gaps.{piece_at, place_ascends}
-use Rattle.oc_chunks.proofs.Located.{behind_it, present_ascends}
-use Rattle.oc_chunks.proofs.Leaving.{Nth, nth, less_off, behind_off, before_it, equal_is}
+use Rattle.oc_chunks.proofs.Located.{present_ascends}
+use Rattle.oc_chunks.proofs.Leaving.{Nth, nth, less_off, before_it, equal_is}
 
 module _ {X : Type 0} (p : X → Bool) where
   pub filter_all : (xs : List X) → Each (λ e. p e ≡ true) xs → filter p xs ≡ xs

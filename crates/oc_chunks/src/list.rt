@@ -1,19 +1,22 @@
 //! The list in chunks.
 
-ghost use Rattle.std.specs.Prelude.{◌≡◌, ◌^◌, ◌-◌, [], min, length, filter, map, IfOk, OnOk, OnErr};
+ghost use Rattle.std.specs.Prelude.{◌≡◌, ◌^◌, ◌-◌, [], min, length, filter, map, IfOk, IfSome, IfNone, OnOk, OnErr};
 ghost use Rattle.std.specs.List.{find as find_in, list_any, flat_map};
 ghost use Rattle.std.specs.Option.{option_map};
 ghost use Rattle.std.specs.Ordering.{is_eq};
 ghost use Rattle.oc_chunks.specs.Between.{is_at, is_between};
 ghost use Rattle.oc_chunks.specs.Ascending.{entered, Each, IsAscending};
+ghost use Rattle.oc_chunks.specs.Opening.{chunk_read, written, IsList};
 ghost use Rattle.oc_chunks.specs.Reading.{chunk_of};
 ghost use Rattle.oc_chunks.specs.Chunks.{IsCutFrom, IsSizedChunk, joined, left, numbers as numbers_of};
 
 use crate::between::{self, len_of, slices, span_between};
 use crate::entry::{Cut, Entry};
+use crate::opening::{Written, pieces_of};
 use crate::piece::Piece;
 use crate::reading::{ChunkView, views};
 use crate::settling::{Keep, settle};
+use crate::writing::{marked_numbers, set_written};
 use crate::{adding, removing};
 use std::alloc::{AllocError, Global};
 use std::marker::Model;
@@ -46,6 +49,23 @@ impl<E: Entry> ChunkList<E> {
     {
         ChunkList {
             pieces: Vec::new(alloc),
+        }
+    }
+
+    /// The list of these chunks, nothing of which has changed since they were written, or nothing
+    /// where they make no list: one has no entry or more than 512, or the entries don't ascend. A
+    /// chunk stays as it is until it changes, however large.
+    pub fn of(
+        alloc: Global,
+        chunks: Vec<Written<E>>,
+    ) -> Result<Option<ChunkList<E>>, AllocError>
+        ensures chunks { IfOk result (λ r. IfSome r (λ l. l.chunks ≡ map chunk_read chunks.items)) }
+        ensures marked { IfOk result (λ r. IfSome r (λ l. l.marked ≡ map chunk_read chunks.items)) }
+        ensures none { IfOk result (λ r. IfNone r (IsList E.order (map chunk_read chunks.items) → ⊥)) }
+    {
+        match pieces_of(alloc, chunks)? {
+            Some(pieces) => Ok(Some(ChunkList { pieces })),
+            None => Ok(None),
         }
     }
 
@@ -115,6 +135,23 @@ impl<E: Entry> ChunkList<E> {
         ensures marked { self.new.marked ≡ self.old.chunks }
     {
         settle(&mut self.pieces, Keep::Now);
+    }
+
+    /// What follows a commit: each chunk is written, and those without a number have got the next
+    /// of these. So is the mark. It takes no memory.
+    pub fn set_written(&mut self, numbers: &[u32])
+        ensures chunks { self.new.chunks ≡ written numbers.now self.old.chunks }
+        ensures marked { self.new.marked ≡ self.new.chunks }
+    {
+        settle(&mut self.pieces, Keep::Now);
+        set_written(&mut self.pieces, numbers);
+    }
+
+    /// The numbers of the chunks as they were at the mark, in order.
+    pub fn marked_numbers(&self, alloc: Global) -> Result<Vec<u32>, AllocError>
+        ensures { IfOk result (λ v. v.items ≡ numbers_of self.now.marked) }
+    {
+        marked_numbers(alloc, self.pieces.as_slice())
     }
 
     /// The chunks as they were at the mark: their bounds, numbers and marks of change. It takes no
