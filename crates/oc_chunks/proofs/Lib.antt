@@ -10,6 +10,7 @@ pub mod Eaches
 pub mod Puts
 pub mod Rotated
 pub mod StandingIn
+pub mod Swapping
 pub mod Views
 pub mod Located
 pub mod Opened

@@ -4,7 +4,7 @@ use Rattle.std.specs.List.{list_any}
 use Rattle.std.specs.Coded.{Coded, code_by, coded×, coded_ℕ, coded_bool, coded_list, coded_option}
 use Rattle.std.specs.declared.cmp.Ordering.{Ordering}
 use Rattle.oc_model.specs.Lists.{IsOneOf}
-use Rattle.oc_chunks.specs.Ascending.{Each, entered}
+use Rattle.oc_chunks.specs.Ascending.{Each, entered, replaced}
 
 -- a part of the list, its number as a segment if it has one, and whether it changed since it was written
 pub record Chunk (X : Type 0) : Type 0 where
@@ -63,6 +63,13 @@ module _ {X : Type 0} where
   -- new has x too
   pub record Adds (cmp : X → X → Ordering) (bytes : X → ℕ) (most : ℕ) (x : X) (old new : Chunked X) : Type 0 where
     pub entries : joined new.chunks ≡ entered cmp x (joined old.chunks)
+    pub marked : new.marked ≡ old.marked
+    pub numbers : numbers new.chunks ≡ numbers old.chunks
+    pub chunks : IsCutFrom bytes most old.chunks new.chunks
+
+  -- new has x, in place of one that is equal to it
+  pub record Puts (cmp : X → X → Ordering) (bytes : X → ℕ) (most : ℕ) (x : X) (old new : Chunked X) : Type 0 where
+    pub entries : joined new.chunks ≡ replaced cmp x (joined old.chunks)
     pub marked : new.marked ≡ old.marked
     pub numbers : numbers new.chunks ≡ numbers old.chunks
     pub chunks : IsCutFrom bytes most old.chunks new.chunks

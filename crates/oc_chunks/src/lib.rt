@@ -9,6 +9,7 @@ mod entry;
 mod list;
 mod opening;
 mod piece;
+mod putting;
 mod reading;
 mod removing;
 mod search;

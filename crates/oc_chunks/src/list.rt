@@ -5,7 +5,7 @@ ghost use Rattle.std.specs.List.{find as find_in, list_any, flat_map};
 ghost use Rattle.std.specs.Option.{option_map};
 ghost use Rattle.std.specs.Ordering.{is_eq};
 ghost use Rattle.oc_chunks.specs.Between.{is_at, is_between};
-ghost use Rattle.oc_chunks.specs.Ascending.{entered, Each, IsAscending};
+ghost use Rattle.oc_chunks.specs.Ascending.{entered, replaced, Each, IsAscending};
 ghost use Rattle.oc_chunks.specs.Opening.{chunk_read, written, IsList};
 ghost use Rattle.oc_chunks.specs.Reading.{chunk_of};
 ghost use Rattle.oc_chunks.specs.Chunks.{IsCutFrom, IsSizedChunk, joined, left, numbers as numbers_of};
@@ -17,7 +17,7 @@ use crate::piece::Piece;
 use crate::reading::{ChunkView, views};
 use crate::settling::{Keep, settle};
 use crate::writing::{marked_numbers, set_written};
-use crate::{adding, removing};
+use crate::{adding, putting, removing};
 use std::alloc::{AllocError, Global};
 use std::marker::Model;
 
@@ -116,6 +116,19 @@ impl<E: Entry> ChunkList<E> {
         ensures err { OnErr result (self.new ≡ self.old) }
     {
         adding::add(alloc, &mut self.pieces, entry)?;
+        Ok(())
+    }
+
+    /// Puts the entry at its place, in place of the one that is equal to it if there is one. The
+    /// chunk that gets it has changed, and is cut as by `add`.
+    pub fn put(&mut self, alloc: Global, entry: E) -> Result<(), AllocError>
+        ensures entries { OnOk result (joined self.new.chunks ≡ replaced E.order entry (joined self.old.chunks)) }
+        ensures numbers { OnOk result (numbers_of self.new.chunks ≡ numbers_of self.old.chunks) }
+        ensures chunks { OnOk result (IsCutFrom E.bytes E.MOST self.old.chunks self.new.chunks) }
+        ensures marked { OnOk result (self.new.marked ≡ self.old.marked) }
+        ensures err { OnErr result (self.new ≡ self.old) }
+    {
+        putting::put(alloc, &mut self.pieces, entry)?;
         Ok(())
     }
 
