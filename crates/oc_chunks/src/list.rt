@@ -55,10 +55,7 @@ impl<E: Entry> ChunkList<E> {
     /// The list of these chunks, nothing of which has changed since they were written, or nothing
     /// where they make no list: one has no entry or more than 512, or the entries don't ascend. A
     /// chunk stays as it is until it changes, however large.
-    pub fn of(
-        alloc: Global,
-        chunks: Vec<Written<E>>,
-    ) -> Result<Option<ChunkList<E>>, AllocError>
+    pub fn of(alloc: Global, chunks: Vec<Written<E>>) -> Result<Option<ChunkList<E>>, AllocError>
         ensures chunks { IfOk result (λ r. IfSome r (λ l. l.chunks ≡ map chunk_read chunks.items)) }
         ensures marked { IfOk result (λ r. IfSome r (λ l. l.marked ≡ map chunk_read chunks.items)) }
         ensures none { IfOk result (λ r. IfNone r (IsList E.order (map chunk_read chunks.items) → ⊥)) }

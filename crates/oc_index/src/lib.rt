@@ -1,6 +1,13 @@
 //! The lists of a store: which objects there are, and where each value of an indexed field stands.
 #![tactic(auto)]
 
+mod extents;
+mod field_index;
 mod items;
+mod place;
+mod ranges;
 
+pub use extents::Extents;
+pub use field_index::FieldIndex;
 pub use items::{ExtentItem, IndexItem};
+pub use ranges::End;
