@@ -18,10 +18,12 @@ pub record Chunked (X : Type 0) : Type 0 where
   pub marked : List (Chunk X)
 
 module _ {X : Type 0} where
+  -- a chunk is told apart by its three parts
   abbrev pub chunk_code : Coded X → Coded (Chunk X)
   chunk_code code =
       code_by (List X × (Option ℕ × Bool)) (coded× (coded_list code) (coded× (coded_option coded_ℕ) coded_bool)) (λ c. (c.entries, (c.number, c.changed))) (λ p. record { entries = p.0; number = p.1.0; changed = p.1.1 }) (λ _. refl)
 
+  -- a list in chunks is told apart by its two lists
   abbrev pub chunked_code : Coded X → Coded (Chunked X)
   chunked_code code =
       code_by (List (Chunk X) × List (Chunk X)) (coded× (coded_list (chunk_code code)) (coded_list (chunk_code code))) (λ l. (l.chunks, l.marked)) (λ p. record { chunks = p.0; marked = p.1 }) (λ _. refl)
@@ -31,6 +33,7 @@ module _ {X : Type 0} where
   some_of [] c = []
   some_of (e ∷ es) c = c ∷ []
 
+  -- a chunk that has an entry, and nothing in place of an empty one
   abbrev pub nonempty : Chunk X → List (Chunk X)
   nonempty c = some_of c.entries c
 
