@@ -11,3 +11,6 @@ pub use extents::Extents;
 pub use field_index::FieldIndex;
 pub use items::{ExtentItem, IndexItem};
 pub use ranges::End;
+
+#[cfg(test)]
+mod tests;
