@@ -3,12 +3,14 @@
 
 mod extents;
 mod field_index;
+mod indexes;
 mod items;
 mod place;
 mod ranges;
 
 pub use extents::Extents;
 pub use field_index::FieldIndex;
+pub use indexes::Indexes;
 pub use items::{ExtentItem, IndexItem};
 pub use ranges::End;
 

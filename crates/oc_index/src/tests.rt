@@ -275,3 +275,23 @@ fn objects_and_their_classes(rt: HostRuntime) -> Result<(), Fail> {
     assert_eq!(rt; extents.class_of(1), Some(2));
     Ok(())
 }
+
+#[test]
+fn fields_that_start_and_end_are_undone(rt: HostRuntime) -> Result<(), Fail> {
+    let alloc = rt.alloc();
+    let mut indexes = Indexes::new(alloc);
+    indexes.start_field(alloc, 7, Base::I32)?;
+    indexes.put(alloc, 1, 2)?;
+    indexes.mark();
+    indexes.end_field(7);
+    indexes.start_field(alloc, 8, Base::Text)?;
+    assert_eq!(rt; indexes.take(1), Some(2));
+    assert!(rt; indexes.field(7).is_none());
+    assert!(rt; indexes.field(8).is_some());
+    assert_eq!(rt; indexes.extents().class_of(1), None);
+    indexes.undo();
+    assert!(rt; indexes.field(7).is_some());
+    assert!(rt; indexes.field(8).is_none());
+    assert_eq!(rt; indexes.extents().class_of(1), Some(2));
+    Ok(())
+}
