@@ -161,7 +161,7 @@ module _ {X : Type 0} (cmp : X → X → Ordering) (o : IsTotalOrder cmp) (bytes
     parted_here = subst (λ l. IsAscending cmp (flat_map shown g.before ++ (l ++ flat_map shown g.after))) (sym (take-append-drop at (present g.piece.part))) present_here
 
     -- what takes the piece's place is pieces of its entries with x
-    pub replaces : (qs : List (Piece X)) → Each IsSized qs → flat_map shown qs ≡ put_in at x (present g.piece.part) → entries_of qs ≡ put_in at x (present g.piece.part) → flat_map (chunks_then cmp) qs ≡ chunks_then cmp g.piece → numbers (flat_map chunks_now qs) ≡ numbers (chunks_now g.piece) → Each (IsCut bytes most) (flat_map chunks_now qs) → Replaces cmp o bytes most g.before (g.piece ∷ []) qs g.after x (take at (present g.piece.part)) (drop at (present g.piece.part))
+    pub replaces : (qs : List (Piece X)) → Each IsSized qs → flat_map shown qs ≡ put_in at x (present g.piece.part) → entries_of qs ≡ put_in at x (present g.piece.part) → flat_map (chunks_then cmp) qs ≡ chunks_then cmp g.piece → numbers (flat_map chunks_now qs) ≡ numbers (chunks_now g.piece) → Each (IsCut bytes most) (flat_map chunks_now qs) → Replaces cmp o bytes most g.before (g.piece ∷ []) qs g.after x (take at (present g.piece.part)) [] (drop at (present g.piece.part))
     replaces qs sized seen entries marked numbered is_cut = record {
       sound = sound_here;
       ascending = parted_here;
@@ -183,10 +183,10 @@ module _ {X : Type 0} (cmp : X → X → Ordering) (o : IsTotalOrder cmp) (bytes
       pub is_sound : IsSound cmp new
       pub is_added : Adds cmp bytes most x (view cmp ps) (view cmp new)
 
-    pub comes : (qs new : List (Piece X)) → new ≡ g.before ++ qs ++ g.after → Replaces cmp o bytes most g.before (g.piece ∷ []) qs g.after x (take at (present g.piece.part)) (drop at (present g.piece.part)) → Comes new
+    pub comes : (qs new : List (Piece X)) → new ≡ g.before ++ qs ++ g.after → Replaces cmp o bytes most g.before (g.piece ∷ []) qs g.after x (take at (present g.piece.part)) [] (drop at (present g.piece.part)) → Comes new
     comes qs new is r = record {
-      is_sound = subst (IsSound cmp) (sym is) (now_sound cmp o bytes most g.before (g.piece ∷ []) qs g.after x (take at (present g.piece.part)) (drop at (present g.piece.part)) r);
-      is_added = subst (λ l. Adds cmp bytes most x (view cmp ps) (view cmp l)) (sym is) (subst (λ l. Adds cmp bytes most x (view cmp l) (view cmp (g.before ++ qs ++ g.after))) (append_assoc g.before (g.piece ∷ []) g.after ∙ sym g.split) (adds cmp o bytes most g.before (g.piece ∷ []) qs g.after x (take at (present g.piece.part)) (drop at (present g.piece.part)) r));
+      is_sound = subst (IsSound cmp) (sym is) (now_sound cmp o bytes most g.before (g.piece ∷ []) qs g.after x (take at (present g.piece.part)) [] (drop at (present g.piece.part)) r);
+      is_added = subst (λ l. Adds cmp bytes most x (view cmp ps) (view cmp l)) (sym is) (subst (λ l. Adds cmp bytes most x (view cmp l) (view cmp (g.before ++ qs ++ g.after))) (append_assoc g.before (g.piece ∷ []) g.after ∙ sym g.split) (adds cmp o bytes most g.before (g.piece ∷ []) qs g.after x (take at (present g.piece.part)) [] (drop at (present g.piece.part)) r refl));
     }
 
     before_is : take i ps ≡ g.before
@@ -258,7 +258,7 @@ module _ {X : Type 0} (cmp : X → X → Ordering) (o : IsTotalOrder cmp) (bytes
       let own : items_of (q ∷ []) ≡ x ∷ [] = append-nil q.part.items.items ∙ items in
       let old : ps ++ [] ++ [] ≡ ps = append-nil (ps ++ []) ∙ append-nil ps in
       let new : ps ++ (q ∷ []) ++ [] ≡ ps ++ q ∷ [] = append-nil (ps ++ q ∷ []) in
-      let r : Replaces cmp o bytes most ps [] (q ∷ []) [] x [] [] = record {
+      let r : Replaces cmp o bytes most ps [] (q ∷ []) [] x [] [] [] = record {
         sound = subst (IsSound cmp) (sym old) sound;
         ascending = subst (IsAscending cmp) (sym (append-nil (flat_map shown ps))) sound.ascending;
         low = low;
@@ -274,8 +274,8 @@ module _ {X : Type 0} (cmp : X → X → Ordering) (o : IsTotalOrder cmp) (bytes
         cut = each_more (IsCut bytes most) (λ c. ⊥ ⊎ IsCut bytes most c) (flat_map chunks_now (q ∷ [])) (λ c is. inr is) (made_cut bytes most (q ∷ []) made_all);
       } in
       record {
-        is_sound = subst (IsSound cmp) new (now_sound cmp o bytes most ps [] (q ∷ []) [] x [] [] r);
-        is_added = subst (λ l. Adds cmp bytes most x (view cmp ps) (view cmp l)) new (subst (λ l. Adds cmp bytes most x (view cmp l) (view cmp (ps ++ (q ∷ []) ++ []))) old (adds cmp o bytes most ps [] (q ∷ []) [] x [] [] r));
+        is_sound = subst (IsSound cmp) new (now_sound cmp o bytes most ps [] (q ∷ []) [] x [] [] [] r);
+        is_added = subst (λ l. Adds cmp bytes most x (view cmp ps) (view cmp l)) new (subst (λ l. Adds cmp bytes most x (view cmp l) (view cmp (ps ++ (q ∷ []) ++ []))) old (adds cmp o bytes most ps [] (q ∷ []) [] x [] [] [] r refl));
       }
 
 -- ---- a piece that is the same but for its memory

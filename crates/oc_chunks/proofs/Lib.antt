@@ -10,5 +10,8 @@ pub mod Eaches
 pub mod Puts
 pub mod Rotated
 pub mod StandingIn
+pub mod Swapping
 pub mod Views
 pub mod Located
+pub mod Opened
+pub mod Looking

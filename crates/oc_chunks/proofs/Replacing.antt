@@ -46,7 +46,7 @@ numbers_append (c ∷ cs) ds = of_number c.number refl (numbers_append cs ds)
 pub flat_parts : {X Y : Type 0} (f : X → List Y) (xs ys zs : List X) → flat_map f (xs ++ ys ++ zs) ≡ flat_map f xs ++ (flat_map f ys ++ flat_map f zs)
 flat_parts f xs ys zs = ap (flat_map f) (append_assoc xs ys zs) ∙ flat_map-append f xs (ys ++ zs) ∙ ap (λ l. flat_map f xs ++ l) (flat_map-append f ys zs)
 
-module _ {X : Type 0} (cmp : X → X → Ordering) (o : IsTotalOrder cmp) (bytes : X → ℕ) (most : ℕ) (before ms qs after : List (Piece X)) (x : X) (low_part high_part : List X) where
+module _ {X : Type 0} (cmp : X → X → Ordering) (o : IsTotalOrder cmp) (bytes : X → ℕ) (most : ℕ) (before ms qs after : List (Piece X)) (x : X) (low_part gone_part high_part : List X) where
   abbrev Low : X → Type 0
   Low e = cmp e x ≡ Less
 
@@ -64,7 +64,7 @@ module _ {X : Type 0} (cmp : X → X → Ordering) (o : IsTotalOrder cmp) (bytes
     pub upto : Each Low low_part
     pub behind : Each High high_part
     pub high : Each High (flat_map shown after)
-    pub there : entries_of ms ≡ low_part ++ high_part
+    pub there : entries_of ms ≡ low_part ++ (gone_part ++ high_part)
     pub sized : Each IsSized qs
     pub seen : flat_map shown qs ≡ low_part ++ x ∷ high_part
     pub entries : entries_of qs ≡ low_part ++ x ∷ high_part
@@ -94,29 +94,42 @@ module _ {X : Type 0} (cmp : X → X → Ordering) (o : IsTotalOrder cmp) (bytes
         let more : IsAscending cmp (sb ++ low_part ++ x ∷ (high_part ++ sa)) = pairs_with (λ u v. cmp u v ≡ Less) (sb ++ low_part) x (high_part ++ sa) apart lows highs in
         subst (IsAscending cmp) (with_x sb sa ∙ ap (λ l. sb ++ (l ++ sa)) (sym r.seen) ∙ sym (flat_parts shown before qs after)) more
 
-    then_same : flat_map (chunks_then cmp) (before ++ qs ++ after) ≡ flat_map (chunks_then cmp) (before ++ ms ++ after)
+    pub then_same : flat_map (chunks_then cmp) (before ++ qs ++ after) ≡ flat_map (chunks_then cmp) (before ++ ms ++ after)
     then_same = flat_parts (chunks_then cmp) before qs after ∙ ap (λ l. flat_map (chunks_then cmp) before ++ (l ++ flat_map (chunks_then cmp) after)) r.marked ∙ sym (flat_parts (chunks_then cmp) before ms after)
 
     pub now_sound : IsSound cmp (before ++ qs ++ after)
     now_sound = record { sized = outer_sized; ascending = now_ascending; marked = subst (λ l. IsAscending cmp (joined l)) (sym then_same) r.sound.marked }
 
-    entries_with : joined (flat_map chunks_now (before ++ qs ++ after)) ≡ entered cmp x (joined (flat_map chunks_now (before ++ ms ++ after)))
-    entries_with =
+    pub lows : Each Low (entries_of before ++ low_part)
+    lows = each_append Low (entries_of before) low_part (each_entry Low before r.low) r.upto
+
+    pub highs : Each High (high_part ++ entries_of after)
+    highs = each_append High high_part (entries_of after) r.behind (each_entry High after r.high)
+
+    pub old_entries : joined (flat_map chunks_now (before ++ ms ++ after)) ≡ (entries_of before ++ low_part) ++ (gone_part ++ (high_part ++ entries_of after))
+    old_entries =
         let eb = entries_of before in
         let ea = entries_of after in
-        let lows : Each Low (eb ++ low_part) = each_append Low eb low_part (each_entry Low before r.low) r.upto in
-        let highs : Each High (high_part ++ ea) = each_append High high_part ea r.behind (each_entry High after r.high) in
-        let old : joined (flat_map chunks_now (before ++ ms ++ after)) ≡ eb ++ low_part ++ (high_part ++ ea) = joined_now (before ++ ms ++ after) ∙ flat_parts (λ p. present p.part) before ms after ∙ ap (λ l. eb ++ (l ++ ea)) r.there ∙ without_x eb ea in
-        let new : joined (flat_map chunks_now (before ++ qs ++ after)) ≡ eb ++ low_part ++ x ∷ (high_part ++ ea) = joined_now (before ++ qs ++ after) ∙ flat_parts (λ p. present p.part) before qs after ∙ ap (λ l. eb ++ (l ++ ea)) r.entries ∙ sym (with_x eb ea) in
-        new ∙ sym (ap (entered cmp x) old ∙ ap (λ b. cond b (eb ++ low_part ++ (high_part ++ ea)) (placed cmp x (eb ++ low_part ++ (high_part ++ ea)))) (not_there cmp o x (eb ++ low_part) (high_part ++ ea) lows highs) ∙ placed_between cmp o x (eb ++ low_part) (high_part ++ ea) lows highs)
+        joined_now (before ++ ms ++ after) ∙ flat_parts (λ p. present p.part) before ms after ∙ ap (λ l. eb ++ (l ++ ea)) r.there
+        ∙ ap (λ l. eb ++ l) (append_assoc low_part (gone_part ++ high_part) ea ∙ ap (λ l. low_part ++ l) (append_assoc gone_part high_part ea)) ∙ sym (append_assoc eb low_part (gone_part ++ (high_part ++ ea)))
 
-    numbers_same : numbers (flat_map chunks_now (before ++ qs ++ after)) ≡ numbers (flat_map chunks_now (before ++ ms ++ after))
+    pub new_entries : joined (flat_map chunks_now (before ++ qs ++ after)) ≡ (entries_of before ++ low_part) ++ x ∷ (high_part ++ entries_of after)
+    new_entries = joined_now (before ++ qs ++ after) ∙ flat_parts (λ p. present p.part) before qs after ∙ ap (λ l. entries_of before ++ (l ++ entries_of after)) r.entries ∙ sym (with_x (entries_of before) (entries_of after))
+
+    entries_with : gone_part ≡ [] → joined (flat_map chunks_now (before ++ qs ++ after)) ≡ entered cmp x (joined (flat_map chunks_now (before ++ ms ++ after)))
+    entries_with none =
+        let us = entries_of before ++ low_part in
+        let vs = high_part ++ entries_of after in
+        let old : joined (flat_map chunks_now (before ++ ms ++ after)) ≡ us ++ vs = old_entries ∙ ap (λ l. us ++ (l ++ vs)) none in
+        new_entries ∙ sym (ap (entered cmp x) old ∙ ap (λ b. cond b (us ++ vs) (placed cmp x (us ++ vs))) (not_there cmp o x us vs lows highs) ∙ placed_between cmp o x us vs lows highs)
+
+    pub numbers_same : numbers (flat_map chunks_now (before ++ qs ++ after)) ≡ numbers (flat_map chunks_now (before ++ ms ++ after))
     numbers_same = parts qs ∙ ap (λ l. numbers (flat_map chunks_now before) ++ (l ++ numbers (flat_map chunks_now after))) r.numbered ∙ sym (parts ms)
       where
         parts : (ns : List (Piece X)) → numbers (flat_map chunks_now (before ++ ns ++ after)) ≡ numbers (flat_map chunks_now before) ++ (numbers (flat_map chunks_now ns) ++ numbers (flat_map chunks_now after))
         parts ns = ap numbers (flat_parts chunks_now before ns after) ∙ numbers_append (flat_map chunks_now before) (flat_map chunks_now ns ++ flat_map chunks_now after) ∙ ap (λ l. numbers (flat_map chunks_now before) ++ l) (numbers_append (flat_map chunks_now ns) (flat_map chunks_now after))
 
-    others : IsCutFrom bytes most (flat_map chunks_now (before ++ ms ++ after)) (flat_map chunks_now (before ++ qs ++ after))
+    pub others : IsCutFrom bytes most (flat_map chunks_now (before ++ ms ++ after)) (flat_map chunks_now (before ++ qs ++ after))
     others =
         let cb = flat_map chunks_now before in
         let cm = flat_map chunks_now ms in
@@ -129,5 +142,5 @@ module _ {X : Type 0} (cmp : X → X → Ordering) (o : IsTotalOrder cmp) (bytes
         let middle : Each Old cq = each_more (λ c. IsOneOf c cm ⊎ IsCut bytes most c) Old cq (λ c m. elim m [ inl one ↦ in_old c (member_rest c cb (cm ++ ca) (member_front c cm ca one)) | inr is_cut ↦ inr is_cut ]) r.cut in
         subst (Each Old) (sym (flat_parts chunks_now before qs after)) (each_append Old cb (cq ++ ca) first (each_append Old cq ca middle last))
 
-    pub adds : Adds cmp bytes most x (view cmp (before ++ ms ++ after)) (view cmp (before ++ qs ++ after))
-    adds = record { entries = entries_with; marked = then_same; numbers = numbers_same; chunks = others }
+    pub adds : gone_part ≡ [] → Adds cmp bytes most x (view cmp (before ++ ms ++ after)) (view cmp (before ++ qs ++ after))
+    adds none = record { entries = entries_with none; marked = then_same; numbers = numbers_same; chunks = others }

@@ -51,7 +51,7 @@ module _ {X : Type 0} where
   some_chunk [] c le = absurd (omega arith)
   some_chunk (e ∷ l) c le = refl
 
-  all_present : (p : Piece X) → IsSettled p → present p.part ≡ p.part.items.items
+  pub all_present : (p : Piece X) → IsSettled p → present p.part ≡ p.part.items.items
   all_present p s = take_all p.part.len p.part.items.items (omega (arith, s.whole))
 
   pub settled_now : (p : Piece X) → IsSettled p → chunks_now p ≡ chunk_now p.part ∷ []
@@ -72,11 +72,11 @@ module _ {X : Type 0} where
   settled_thens cmp [] s = refl
   settled_thens cmp (p ∷ ps) s = ap₂ (λ k l. k ++ l) (settled_then cmp p s.0) (settled_thens cmp ps s.1)
 
-  settled_shown : (ps : List (Piece X)) → Each IsSettled ps → flat_map shown ps ≡ entries_of ps
+  pub settled_shown : (ps : List (Piece X)) → Each IsSettled ps → flat_map shown ps ≡ entries_of ps
   settled_shown [] s = refl
   settled_shown (p ∷ ps) s = ap₂ (λ k l. k ++ l) (ap (λ n. take n p.part.items.items) {x = max p.part.len 1} {y = p.part.len} (omega (arith, s.0.some))) (settled_shown ps s.1)
 
-  settled_sized : (ps : List (Piece X)) → Each IsSettled ps → Each IsSized ps
+  pub settled_sized : (ps : List (Piece X)) → Each IsSettled ps → Each IsSized ps
   settled_sized [] s = tt
   settled_sized (p ∷ ps) s = (record { part = record { some = omega (arith, s.0.some, s.0.whole); within = omega (arith, s.0.whole); few = s.0.few }; was = subst (IsSizedWas p.part) (sym s.0.was) (omega (arith, s.0.few, s.0.whole)) }, settled_sized ps s.1)
 

@@ -1,5 +1,5 @@
 -- Where an entry goes, and what it comes to there.
-use Rattle.std.specs.Prelude.{◌≡◌, ℕ, ◌≤◌, Bool, true, false, List, ◌∷◌, ◌++◌, take, drop, length}
+use Rattle.std.specs.Prelude.{◌≡◌, ℕ, ◌-◌, ◌≤◌, Bool, true, false, List, ◌∷◌, ◌++◌, take, drop, length}
 use Rattle.std.specs.List.{flat_map}
 use Rattle.std.specs.declared.cmp.Ordering.{Ordering}
 use Rattle.std.specs.declared.cmp.Ordering.TheVariants.{Less, Greater}
@@ -48,3 +48,8 @@ module _ {X : Type 0} where
   pub record IsCutOf (bytes : X → ℕ) (most at : ℕ) (x : X) (p : Part X) (made : List (Piece X)) : Type 0 where
     pub each : Each (IsMade bytes most) made
     pub items : items_of made ≡ put_in at x (present p)
+
+  -- new pieces of the part's entries with x in place of the one before the place
+  pub record IsCutOver (bytes : X → ℕ) (most at : ℕ) (x : X) (p : Part X) (made : List (Piece X)) : Type 0 where
+    pub each : Each (IsMade bytes most) made
+    pub items : items_of made ≡ take (at - 1) (present p) ++ x ∷ drop at (present p)

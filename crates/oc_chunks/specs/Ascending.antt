@@ -1,5 +1,5 @@
 -- Lists in ascending order, and what a change makes of one.
-use Rattle.std.specs.Prelude.{◌≡◌, Bool, List, [], ◌∷◌, if◌then◌else◌}
+use Rattle.std.specs.Prelude.{◌≡◌, Bool, not, List, [], ◌∷◌, filter, if◌then◌else◌}
 use Rattle.std.specs.List.{list_any}
 use Rattle.std.specs.Ordering.{is_eq}
 use Rattle.std.specs.declared.cmp.Ordering.{Ordering}
@@ -27,3 +27,7 @@ has cmp x xs = list_any (λ y. is_eq (cmp y x)) xs
 -- the list with x at its place, if none is equal to it
 abbrev pub entered : {X : Type 0} → (X → X → Ordering) → X → List X → List X
 entered cmp x xs = if has cmp x xs then xs else placed cmp x xs
+
+-- the list with x at its place, in place of the one that is equal to it if there is one
+abbrev pub replaced : {X : Type 0} → (X → X → Ordering) → X → List X → List X
+replaced cmp x xs = placed cmp x (filter (λ e. not (is_eq (cmp e x))) xs)

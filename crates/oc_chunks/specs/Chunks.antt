@@ -4,7 +4,7 @@ use Rattle.std.specs.List.{list_any}
 use Rattle.std.specs.Coded.{Coded, code_by, coded×, coded_ℕ, coded_bool, coded_list, coded_option}
 use Rattle.std.specs.declared.cmp.Ordering.{Ordering}
 use Rattle.oc_model.specs.Lists.{IsOneOf}
-use Rattle.oc_chunks.specs.Ascending.{Each, entered}
+use Rattle.oc_chunks.specs.Ascending.{Each, entered, replaced}
 
 -- a part of the list, its number as a segment if it has one, and whether it changed since it was written
 pub record Chunk (X : Type 0) : Type 0 where
@@ -18,10 +18,12 @@ pub record Chunked (X : Type 0) : Type 0 where
   pub marked : List (Chunk X)
 
 module _ {X : Type 0} where
+  -- a chunk is told apart by its three parts
   abbrev pub chunk_code : Coded X → Coded (Chunk X)
   chunk_code code =
       code_by (List X × (Option ℕ × Bool)) (coded× (coded_list code) (coded× (coded_option coded_ℕ) coded_bool)) (λ c. (c.entries, (c.number, c.changed))) (λ p. record { entries = p.0; number = p.1.0; changed = p.1.1 }) (λ _. refl)
 
+  -- a list in chunks is told apart by its two lists
   abbrev pub chunked_code : Coded X → Coded (Chunked X)
   chunked_code code =
       code_by (List (Chunk X) × List (Chunk X)) (coded× (coded_list (chunk_code code)) (coded_list (chunk_code code))) (λ l. (l.chunks, l.marked)) (λ p. record { chunks = p.0; marked = p.1 }) (λ _. refl)
@@ -31,6 +33,7 @@ module _ {X : Type 0} where
   some_of [] c = []
   some_of (e ∷ es) c = c ∷ []
 
+  -- a chunk that has an entry, and nothing in place of an empty one
   abbrev pub nonempty : Chunk X → List (Chunk X)
   nonempty c = some_of c.entries c
 
@@ -63,6 +66,13 @@ module _ {X : Type 0} where
   -- new has x too
   pub record Adds (cmp : X → X → Ordering) (bytes : X → ℕ) (most : ℕ) (x : X) (old new : Chunked X) : Type 0 where
     pub entries : joined new.chunks ≡ entered cmp x (joined old.chunks)
+    pub marked : new.marked ≡ old.marked
+    pub numbers : numbers new.chunks ≡ numbers old.chunks
+    pub chunks : IsCutFrom bytes most old.chunks new.chunks
+
+  -- new has x, in place of one that is equal to it
+  pub record Puts (cmp : X → X → Ordering) (bytes : X → ℕ) (most : ℕ) (x : X) (old new : Chunked X) : Type 0 where
+    pub entries : joined new.chunks ≡ replaced cmp x (joined old.chunks)
     pub marked : new.marked ≡ old.marked
     pub numbers : numbers new.chunks ≡ numbers old.chunks
     pub chunks : IsCutFrom bytes most old.chunks new.chunks

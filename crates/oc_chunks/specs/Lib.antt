@@ -1,5 +1,7 @@
 pub mod Adding
 pub mod Ascending
+pub mod Between
+pub mod Opening
 pub mod Places
 pub mod Reading
 pub mod Removing

@@ -44,6 +44,7 @@ module _ {X : Type 0} where
   IsSizedWas p Nothing = p.changed ≡ true
   IsSizedWas p (Other old) = IsSizedPart old × (length old.items.items ≤ 512) × (p.changed ≡ true)
 
+  -- a piece of which both sides have the sizes of chunks
   pub record IsSized (p : Piece X) : Type 0 where
     pub part : IsSizedPart p.part
     pub was : IsSizedWas p.part p.was
@@ -63,6 +64,7 @@ module _ {X : Type 0} where
   begins_in side [] = false
   begins_in side (e ∷ es) = is_upto side e
 
+  -- the first entry of the piece, there or gone, is no later than the place
   abbrev pub begins : (X → Ordering) → Piece X → Bool
   begins side p = begins_in side p.part.items.items
 
@@ -95,6 +97,7 @@ module _ {X : Type 0} where
     was_chunks p Nothing = []
     was_chunks p (Other old) = chunk_then old ∷ []
 
+    -- the chunk for which the piece stood at the mark, if it stood for one
     abbrev pub chunks_then : Piece X → List (Chunk X)
     chunks_then p = was_chunks p.part p.was
 

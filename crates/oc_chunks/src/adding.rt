@@ -6,6 +6,7 @@ ghost use Rattle.oc_chunks.specs.Ascending.{Each, has};
 ghost use Rattle.oc_chunks.specs.Chunks.{joined, Adds};
 ghost use Rattle.oc_chunks.specs.Pieces.{IsSound, chunks_now, present, shown, view};
 ghost use Rattle.oc_chunks.specs.Adding.{Gap, IsWithinWay, Fits, IsCutOf};
+ghost use Rattle.oc_chunks.specs.Removing.{IsHere};
 ghost use Rattle.oc_chunks.specs.declared.adding.Way.TheVariants as way_of;
 
 use crate::cutting::{copies, cut, has_room, made};
@@ -46,10 +47,11 @@ pub(crate) fn add<E: Entry>(
 }
 
 /// Where an entry is that is equal to this one, or the gap for it.
-fn place_of<E: Entry>(pieces: &[Piece<E>], entry: &E) -> Result<Found, Found>
+pub(crate) fn place_of<E: Entry>(pieces: &[Piece<E>], entry: &E) -> Result<Found, Found>
     requires sound { IsSound E.order pieces.now }
     requires some { 1 ≤ length pieces.now }
     ensures there { IfOk result (λ _. has E.order entry.now (joined (flat_map chunks_now pieces.now)) ≡ true) }
+    ensures here { IfOk result (λ f. IsHere (λ e. E.order e entry.now) pieces.now f.piece f.at) }
     ensures gap { IfErr result (λ f. Gap E.order entry.now pieces.now f.piece f.at) }
 {
     let cut = At { entry };
@@ -61,7 +63,7 @@ fn place_of<E: Entry>(pieces: &[Piece<E>], entry: &E) -> Result<Found, Found>
     }
 }
 
-fn put<E: Entry>(
+pub(crate) fn put<E: Entry>(
     alloc: Global,
     pieces: &mut Vec<Piece<E>>,
     gap: Found,
@@ -99,7 +101,7 @@ fn way_into<E: Entry>(piece: &Piece<E>, at: usize, is_last: bool, entry: &E) -> 
 }
 
 /// Puts the entry into a chunk of its own, behind all others.
-fn push_alone<E: Entry>(
+pub(crate) fn push_alone<E: Entry>(
     alloc: Global,
     pieces: &mut Vec<Piece<E>>,
     entry: E,

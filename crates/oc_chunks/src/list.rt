@@ -1,17 +1,23 @@
 //! The list in chunks.
 
-ghost use Rattle.std.specs.Prelude.{◌≡◌, [], map, IfOk, OnOk, OnErr};
-ghost use Rattle.std.specs.List.{list_any, flat_map};
+ghost use Rattle.std.specs.Prelude.{◌≡◌, ◌^◌, ◌-◌, [], min, length, filter, map, IfOk, IfSome, IfNone, OnOk, OnErr};
+ghost use Rattle.std.specs.List.{find as find_in, list_any, flat_map};
+ghost use Rattle.std.specs.Option.{option_map};
 ghost use Rattle.std.specs.Ordering.{is_eq};
-ghost use Rattle.oc_chunks.specs.Ascending.{entered, Each, IsAscending};
+ghost use Rattle.oc_chunks.specs.Between.{is_at, is_between};
+ghost use Rattle.oc_chunks.specs.Ascending.{entered, replaced, Each, IsAscending};
+ghost use Rattle.oc_chunks.specs.Opening.{chunk_read, written, IsList};
 ghost use Rattle.oc_chunks.specs.Reading.{chunk_of};
 ghost use Rattle.oc_chunks.specs.Chunks.{IsCutFrom, IsSizedChunk, joined, left, numbers as numbers_of};
 
+use crate::between::{self, len_of, slices, span_between};
 use crate::entry::{Cut, Entry};
+use crate::opening::{Written, pieces_of};
 use crate::piece::Piece;
 use crate::reading::{ChunkView, views};
 use crate::settling::{Keep, settle};
-use crate::{adding, removing};
+use crate::writing::{marked_numbers, set_written};
+use crate::{adding, putting, removing};
 use std::alloc::{AllocError, Global};
 use std::marker::Model;
 
@@ -46,6 +52,20 @@ impl<E: Entry> ChunkList<E> {
         }
     }
 
+    /// The list of these chunks, nothing of which has changed since they were written, or nothing
+    /// where they make no list: one has no entry or more than 512, or the entries don't ascend. A
+    /// chunk stays as it is until it changes, however large.
+    pub fn of(alloc: Global, chunks: Vec<Written<E>>) -> Result<Option<ChunkList<E>>, AllocError>
+        ensures chunks { IfOk result (λ r. IfSome r (λ l. l.chunks ≡ map chunk_read chunks.items)) }
+        ensures marked { IfOk result (λ r. IfSome r (λ l. l.marked ≡ map chunk_read chunks.items)) }
+        ensures none { IfOk result (λ r. IfNone r (IsList E.order (map chunk_read chunks.items) → ⊥)) }
+    {
+        match pieces_of(alloc, chunks)? {
+            Some(pieces) => Ok(Some(ChunkList { pieces })),
+            None => Ok(None),
+        }
+    }
+
     /// The chunks in order. Each has 1 to 512 entries, and no two entries are equal.
     pub fn chunks<'a>(&'a self, alloc: Global) -> Result<Vec<ChunkView<'a, E>>, AllocError>
         ensures chunks { IfOk result (λ v. map chunk_of v.items ≡ self.now.chunks) }
@@ -53,6 +73,34 @@ impl<E: Entry> ChunkList<E> {
         ensures ascending { IsAscending E.order (joined self.now.chunks) }
     {
         views(alloc, self.pieces.as_slice())
+    }
+
+    /// The entry at the place.
+    pub fn find<C: Cut<E>>(&self, cut: &C) -> Option<&E>
+        ensures { option_map (λ e. e.now) result ≡ find_in (is_at (C.side cut.now)) (joined self.now.chunks) }
+    {
+        between::find(self.pieces.as_slice(), cut)
+    }
+
+    /// How many entries lie behind the low place and not behind the high one, at most 2^64 - 1. It
+    /// searches at both ends, and counts by chunks between them.
+    pub fn count<C: Cut<E>>(&self, low: &C, high: &C) -> u64
+        ensures { result ≡ min (length (filter (is_between (C.side low.now) (C.side high.now)) (joined self.now.chunks))) (2 ^ 64 - 1) }
+    {
+        len_of(&span_between(self.pieces.as_slice(), low, high))
+    }
+
+    /// The entries behind the low place and not behind the high one, in slices. It searches at both
+    /// ends.
+    pub fn between<'a, C: Cut<E>>(
+        &'a self,
+        alloc: Global,
+        low: &C,
+        high: &C,
+    ) -> Result<Vec<&'a [E]>, AllocError>
+        ensures { IfOk result (λ v. flat_map (λ s. s.now) v.items ≡ filter (is_between (C.side low.now) (C.side high.now)) (joined self.now.chunks)) }
+    {
+        slices(alloc, &span_between(self.pieces.as_slice(), low, high))
     }
 
     /// Puts the entry at its place, if none is equal to it. A chunk that comes to more than the
@@ -65,6 +113,19 @@ impl<E: Entry> ChunkList<E> {
         ensures err { OnErr result (self.new ≡ self.old) }
     {
         adding::add(alloc, &mut self.pieces, entry)?;
+        Ok(())
+    }
+
+    /// Puts the entry at its place, in place of the one that is equal to it if there is one. The
+    /// chunk that gets it has changed, and is cut as by `add`.
+    pub fn put(&mut self, alloc: Global, entry: E) -> Result<(), AllocError>
+        ensures entries { OnOk result (joined self.new.chunks ≡ replaced E.order entry (joined self.old.chunks)) }
+        ensures numbers { OnOk result (numbers_of self.new.chunks ≡ numbers_of self.old.chunks) }
+        ensures chunks { OnOk result (IsCutFrom E.bytes E.MOST self.old.chunks self.new.chunks) }
+        ensures marked { OnOk result (self.new.marked ≡ self.old.marked) }
+        ensures err { OnErr result (self.new ≡ self.old) }
+    {
+        putting::put(alloc, &mut self.pieces, entry)?;
         Ok(())
     }
 
@@ -84,6 +145,23 @@ impl<E: Entry> ChunkList<E> {
         ensures marked { self.new.marked ≡ self.old.chunks }
     {
         settle(&mut self.pieces, Keep::Now);
+    }
+
+    /// What follows a commit: each chunk is written, and those without a number have got the next
+    /// of these. So is the mark. It takes no memory.
+    pub fn set_written(&mut self, numbers: &[u32])
+        ensures chunks { self.new.chunks ≡ written numbers.now self.old.chunks }
+        ensures marked { self.new.marked ≡ self.new.chunks }
+    {
+        settle(&mut self.pieces, Keep::Now);
+        set_written(&mut self.pieces, numbers);
+    }
+
+    /// The numbers of the chunks as they were at the mark, in order.
+    pub fn marked_numbers(&self, alloc: Global) -> Result<Vec<u32>, AllocError>
+        ensures { IfOk result (λ v. v.items ≡ numbers_of self.now.marked) }
+    {
+        marked_numbers(alloc, self.pieces.as_slice())
     }
 
     /// The chunks as they were at the mark: their bounds, numbers and marks of change. It takes no

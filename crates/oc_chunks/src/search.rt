@@ -48,7 +48,7 @@ fn begins_upto<E: Entry, C: Cut<E>>(piece: &Piece<E>, cut: &C) -> bool
     }
 }
 
-fn is_not_behind<E: Entry, C: Cut<E>>(entry: &E, cut: &C) -> bool
+pub(crate) fn is_not_behind<E: Entry, C: Cut<E>>(entry: &E, cut: &C) -> bool
     ensures { result ≡ is_upto (C.side cut.now) entry.now }
 {
     !cut.side(entry).is_gt()

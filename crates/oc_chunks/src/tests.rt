@@ -99,3 +99,96 @@ fn undo_gives_the_chunks_of_the_mark_back(rt: HostRuntime) -> Result<(), Fail> {
     assert!(rt; is_like(rt.alloc(), &list, &[(4, 10, true), (2, 50, true)])?);
     Ok(())
 }
+
+// The list of chunks of these keys, numbered from 7 on.
+fn list_of(alloc: Global, chunks: &[&[u32]]) -> Result<Option<ChunkList<Key>>, AllocError> {
+    let mut read = Vec::new(alloc);
+    let mut number = 7;
+    for keys in chunks {
+        let mut entries = Vec::new(alloc);
+        for at in *keys {
+            entries.push(Key { at: *at })?;
+        }
+        read.push(Written { entries, number })?;
+        number = 8;
+    }
+    ChunkList::of(alloc, read)
+}
+
+#[test]
+fn chunks_that_are_read_must_ascend(rt: HostRuntime) -> Result<(), Fail> {
+    let table: [(&[&[u32]], bool); 6] = [
+        (&[], true),
+        (&[&[1, 2, 3], &[4]], true),
+        (&[&[1, 2], &[]], false),
+        (&[&[2, 1]], false),
+        (&[&[1, 2], &[2, 3]], false),
+        (&[&[3], &[1]], false),
+    ];
+    for (chunks, is_list) in table {
+        assert_eq!(rt; list_of(rt.alloc(), chunks)?.is_some(), is_list);
+    }
+    Ok(())
+}
+
+#[test]
+fn a_chunk_that_was_read_is_cut_at_its_first_insert(rt: HostRuntime) -> Result<(), Fail> {
+    let read = list_of(rt.alloc(), &[&[10, 20, 30, 40, 50, 60, 70, 80], &[90]])?;
+    let mut list = read.unwrap_or(ChunkList::new(rt.alloc()));
+    assert!(rt; is_like(rt.alloc(), &list, &[(8, 10, false), (1, 90, false)])?);
+    list.add(rt.alloc(), Key { at: 45 })?;
+    let cut = [(4, 10, true), (2, 45, true), (3, 60, true), (1, 90, false)];
+    assert!(rt; is_like(rt.alloc(), &list, &cut)?);
+    assert_eq!(rt;
+        list.marked_numbers(rt.alloc())?.as_slice(),
+        [7, 8].as_slice()
+    );
+    list.set_written(&[20, 21]);
+    assert!(rt;
+        is_like(
+            rt.alloc(),
+            &list,
+            &[
+                (4, 10, false),
+                (2, 45, false),
+                (3, 60, false),
+                (1, 90, false)
+            ]
+        )?
+    );
+    assert_eq!(rt;
+        list.marked_numbers(rt.alloc())?.as_slice(),
+        [7, 20, 21, 8].as_slice()
+    );
+    Ok(())
+}
+
+#[test]
+fn what_lies_between_two_entries(rt: HostRuntime) -> Result<(), Fail> {
+    let read = list_of(rt.alloc(), &[&[10, 20, 30], &[40, 50]])?;
+    let mut list = read.unwrap_or(ChunkList::new(rt.alloc()));
+    for (low, high, count) in [
+        (0, 60, 5),
+        (10, 40, 3),
+        (15, 45, 3),
+        (30, 30, 0),
+        (40, 60, 1),
+    ] {
+        let (low, high) = (Key { at: low }, Key { at: high });
+        let (low, high) = (At { entry: &low }, At { entry: &high });
+        assert_eq!(rt; list.count(&low, &high), count);
+        let mut sum = 0;
+        for slice in &list.between(rt.alloc(), &low, &high)? {
+            sum += slice.len() as u64;
+        }
+        assert_eq!(rt; sum, count);
+    }
+    list.put(rt.alloc(), Key { at: 40 })?;
+    list.put(rt.alloc(), Key { at: 45 })?;
+    for (at, is_there) in [(40, true), (45, true), (46, false)] {
+        let key = Key { at };
+        assert_eq!(rt; list.find(&At { entry: &key }).is_some(), is_there);
+    }
+    assert!(rt; is_like(rt.alloc(), &list, &[(3, 10, false), (3, 40, true)])?);
+    Ok(())
+}

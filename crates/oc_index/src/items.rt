@@ -53,10 +53,8 @@ impl Entry for ExtentItem {
 }
 
 impl Entry for IndexItem {
-    ghost use Rattle.std.specs.Cmp.{nat_cmp_total};
-    ghost use Rattle.std.proofs.lemmas.Cmp.{on_total, then_total};
     ghost use Rattle.std.proofs.Common.{arith};
-    ghost use Rattle.oc_model.proofs.Orders.{compare_total};
+    ghost use Rattle.oc_index.specs.Totals.{index_total};
 
     ghost order = { index_cmp };
 
@@ -81,7 +79,7 @@ impl Entry for IndexItem {
         })
     }
 
-    ghost total = { then_total (on_total (λ e. e.key) compare_total) (on_total (λ e. e.number) nat_cmp_total) };
+    ghost total = { index_total };
 
     ghost few = { Prim.omega arith };
 }

@@ -1,6 +1,18 @@
 //! The lists of a store: which objects there are, and where each value of an indexed field stands.
 #![tactic(auto)]
 
+mod extents;
+mod field_index;
+mod indexes;
 mod items;
+mod place;
+mod ranges;
 
+pub use extents::Extents;
+pub use field_index::FieldIndex;
+pub use indexes::Indexes;
 pub use items::{ExtentItem, IndexItem};
+pub use ranges::End;
+
+#[cfg(test)]
+mod tests;

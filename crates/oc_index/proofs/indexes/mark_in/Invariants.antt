@@ -1,0 +1,7 @@
+use Rattle.std.proofs.Common.{◌≡◌, ◌++◌, map, take, drop}
+use Rattle.oc_index.specs.Indexed.{marked_field}
+use Rattle.oc_index.proofs.indexes.mark_in.Given as goal
+
+-- each so far is done
+abbrev pub invariant-loop-at : goal.invariant-loop-at
+invariant-loop-at l = l.fields.items ≡ map marked_field (take l.at l.initial.fields.items) ++ drop l.at l.initial.fields.items

@@ -1,0 +1,90 @@
+-- The lists of a store, as contracts see them.
+use Rattle.std.specs.Prelude.{◌≡◌, ℕ, Bool, true, false, ◌&&◌, ◌==◌, List, [], ◌∷◌, ◌++◌, length, flat_map, Option, Some, option_map, if◌then◌else◌}
+use Rattle.std.specs.List.{find}
+use Rattle.oc_model.specs.declared.value.Atom.{Atom}
+use Rattle.oc_chunks.specs.Ascending.{entered, Each}
+use Rattle.oc_chunks.specs.Chunks.{Chunked, joined, numbers, IsCutFrom, left}
+use Rattle.oc_index.specs.declared.items.ExtentItem.{ExtentItem}
+use Rattle.oc_index.specs.declared.indexes.Field.{Field}
+use Rattle.oc_index.specs.Fields.{FieldList}
+use Rattle.oc_index.specs.Items.{index_bytes, index_cmp}
+use Rattle.oc_index.specs.Ranges.{is_entry}
+
+-- a field's index as it is taken to be at the mark
+abbrev pub marked_now : FieldList → FieldList
+marked_now f = record { base = f.base; chunks = f.chunks; marked = f.chunks }
+
+-- a field's index as it was at the mark
+abbrev pub undone : FieldList → FieldList
+undone f = record { base = f.base; chunks = f.marked; marked = f.marked }
+
+-- the index that is there, with the id of its field
+abbrev pub now_of : Field → List (ℕ × FieldList)
+now_of f = if f.is_here then (f.id, f.index) ∷ [] else []
+
+-- the index that was there at the mark, with the id of its field
+abbrev pub then_of : Field → List (ℕ × FieldList)
+then_of f = if f.was_there then (f.id, undone f.index) ∷ [] else []
+
+-- the first index of the field of this id, if there is one
+abbrev pub field_at : ℕ → List (ℕ × FieldList) → Option FieldList
+field_at id fs = option_map (λ f. f.1) (find (λ f. f.0 == id) fs)
+
+-- the list with this index in place of the first of the field of this id
+abbrev pub with_field : ℕ → FieldList → List (ℕ × FieldList) → List (ℕ × FieldList)
+with_field id g [] = []
+with_field id g (f ∷ fs) = if f.0 == id then (f.0, g) ∷ fs else f ∷ with_field id g fs
+
+-- the index of the field of this id came to another, and all others stay
+pub record Changes (id : ℕ) (R : FieldList → FieldList → Type 0) (old new : List (ℕ × FieldList)) : Type 0 where
+  pub field : FieldList
+  pub now : FieldList
+  pub was : field_at id old ≡ Some field
+  pub is : new ≡ with_field id now old
+  pub change : R field now
+
+-- an object is entered with its value
+pub record Enters (key : Atom) (number : ℕ) (old new : FieldList) : Type 0 where
+  pub base : new.base ≡ old.base
+  pub entries : joined new.chunks ≡ entered index_cmp (record { key = key; number = number }) (joined old.chunks)
+  pub segments : numbers new.chunks ≡ numbers old.chunks
+  pub chunks : IsCutFrom index_bytes 128 old.chunks new.chunks
+  pub marked : new.marked ≡ old.marked
+
+-- an entry is taken out, if it is there
+pub record Leaves (key : Atom) (number : ℕ) (old new : FieldList) : Type 0 where
+  pub base : new.base ≡ old.base
+  pub chunks : new.chunks ≡ flat_map (left (is_entry key number)) old.chunks
+  pub marked : new.marked ≡ old.marked
+
+-- the extents, and the index of each indexed field with the field's id, as they are and as they were at the mark
+pub record StoreLists : Type 0 where
+  pub extents : Chunked ExtentItem
+  pub fields : List (ℕ × FieldList)
+  pub marked : List (ℕ × FieldList)
+
+-- a place of the fields at which an index of this id is there
+abbrev pub is_of : ℕ → Field → Bool
+is_of id f = f.is_here && (f.id == id)
+
+-- the first place at which there is one
+pub record IsPlace (id : ℕ) (fs : List Field) (at : ℕ) : Type 0 where
+  pub before : List Field
+  pub field : Field
+  pub after : List Field
+  pub split : fs ≡ before ++ field ∷ after
+  pub index : length before ≡ at
+  pub none : Each (λ f. is_of id f ≡ false) before
+  pub here : is_of id field ≡ true
+
+-- the index of this id is no longer there
+abbrev pub ended : ℕ → Field → Field
+ended id f = record { id = f.id; index = f.index; is_here = if f.id == id then false else f.is_here; was_there = f.was_there }
+
+-- what is there becomes what was there at the mark
+abbrev pub marked_field : Field → Field
+marked_field f = record { id = f.id; index = marked_now f.index; is_here = f.is_here; was_there = f.is_here }
+
+-- what was there at the mark is there again
+abbrev pub undone_field : Field → Field
+undone_field f = record { id = f.id; index = undone f.index; is_here = f.was_there; was_there = f.was_there }

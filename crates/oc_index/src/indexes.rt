@@ -1,0 +1,306 @@
+//! The lists of a store.
+
+ghost use Rattle.std.specs.Prelude.{◌≡◌, ◌==◌, ◌++◌, ◌∷◌, [], ℕ, not, map, filter, true, false, IsSome, IfSome, IfNone, OnOk, OnErr};
+ghost use Rattle.std.specs.List.{find, flat_map, list_any};
+ghost use Rattle.std.specs.Option.{option_map};
+ghost use Rattle.oc_chunks.specs.Ascending.{replaced, Each};
+ghost use Rattle.oc_chunks.specs.Chunks.{joined, left, numbers as segments_of, IsCutFrom};
+ghost use Rattle.oc_index.specs.Indexed.{ended, field_at, is_of, marked_field, marked_now, now_of, then_of, undone_field, Changes, Enters, IsPlace, Leaves};
+ghost use Rattle.oc_index.specs.Items.{extent_cmp};
+ghost use Rattle.oc_index.specs.Ranges.{is_entry, is_numbered};
+
+use crate::extents::Extents;
+use crate::field_index::FieldIndex;
+use oc_value::{Atom, Base};
+use std::alloc::{AllocError, Global};
+use std::marker::Model;
+
+/// An index, whether it is there, and whether it was at the mark.
+#[derive(Drop)]
+struct Field {
+    id: u32,
+    index: FieldIndex,
+    is_here: bool,
+    was_there: bool,
+}
+
+/// The list of all objects, and the index of each indexed field. It keeps what they were at the last
+/// mark.
+#[derive(Drop)]
+pub struct Indexes {
+    extents: Extents,
+    fields: Vec<Field>,
+}
+
+impl Model for Indexes {
+    ghost use Rattle.std.specs.List.{flat_map};
+    ghost use Rattle.oc_index.specs.Indexed.{StoreLists};
+
+    ghost Value = { StoreLists };
+
+    ghost use Rattle.oc_index.specs.Indexed.{now_of, then_of};
+
+    ghost view = { λ i. record { extents = i.extents; fields = flat_map now_of i.fields.items; marked = flat_map then_of i.fields.items } };
+}
+
+impl Indexes {
+    /// No objects and no indexes, at the mark too.
+    pub fn new(alloc: Global) -> Indexes
+        ensures extents { (result.extents.chunks ≡ []) × (result.extents.marked ≡ []) }
+        ensures fields { result.fields ≡ [] }
+        ensures marked { result.marked ≡ [] }
+    {
+        Indexes {
+            extents: Extents::new(alloc),
+            fields: Vec::new(alloc),
+        }
+    }
+
+    /// The list of all objects.
+    pub fn extents(&self) -> &Extents
+        ensures { result.now ≡ self.now.extents }
+    {
+        &self.extents
+    }
+
+    /// The index of the field, if it has one.
+    pub fn field(&self, id: u32) -> Option<&FieldIndex>
+        ensures { option_map (λ f. f.now) result ≡ field_at id self.now.fields }
+    {
+        field_in(self.fields.as_slice(), id)
+    }
+
+    /// Gives the field an empty index.
+    pub fn start_field(&mut self, alloc: Global, id: u32, base: Base) -> Result<(), AllocError>
+        ensures extents { self.new.extents ≡ self.old.extents }
+        ensures fields { OnOk result (self.new.fields ≡ self.old.fields ++ (id, record { base = base; chunks = []; marked = [] }) ∷ []) }
+        ensures marked { self.new.marked ≡ self.old.marked }
+        ensures err { OnErr result (self.new ≡ self.old) }
+    {
+        self.fields.push(started(alloc, id, base))?;
+        Ok(())
+    }
+
+    /// Takes the index of the field away, if it has one. It takes no memory.
+    pub fn end_field(&mut self, id: u32)
+        ensures extents { self.new.extents ≡ self.old.extents }
+        ensures fields { self.new.fields ≡ filter (λ f. not (f.0 == id)) self.old.fields }
+        ensures marked { self.new.marked ≡ self.old.marked }
+    {
+        end_in(&mut self.fields, id);
+    }
+
+    /// Puts the object in, in place of the one of its number if there is one.
+    pub fn put(&mut self, alloc: Global, number: u32, class: u32) -> Result<(), AllocError>
+        ensures entries { OnOk result (joined self.new.extents.chunks ≡ replaced extent_cmp (record { number = number; class = class }) (joined self.old.extents.chunks)) }
+        ensures segments { OnOk result (segments_of self.new.extents.chunks ≡ segments_of self.old.extents.chunks) }
+        ensures chunks { OnOk result (IsCutFrom (λ _. 8) 512 self.old.extents.chunks self.new.extents.chunks) }
+        ensures extents_marked { OnOk result (self.new.extents.marked ≡ self.old.extents.marked) }
+        ensures fields { (self.new.fields ≡ self.old.fields) × (self.new.marked ≡ self.old.marked) }
+        ensures err { OnErr result (self.new ≡ self.old) }
+    {
+        self.extents.put(alloc, number, class)?;
+        Ok(())
+    }
+
+    /// Takes the object of this number out, and tells its class, if there is one. It takes no memory.
+    pub fn take(&mut self, number: u32) -> Option<u32>
+        ensures class { result ≡ option_map (λ e. e.class) (find (is_numbered number) (joined self.old.extents.chunks)) }
+        ensures chunks { self.new.extents.chunks ≡ flat_map (left (is_numbered number)) self.old.extents.chunks }
+        ensures extents_marked { self.new.extents.marked ≡ self.old.extents.marked }
+        ensures fields { (self.new.fields ≡ self.old.fields) × (self.new.marked ≡ self.old.marked) }
+    {
+        self.extents.remove(number)
+    }
+
+    /// Enters the object with its value into the index of the field. An entry that is there stays as
+    /// it is.
+    pub fn add(&mut self, alloc: Global, id: u32, key: Atom, number: u32) -> Result<(), AllocError>
+        requires { IsSome (field_at id self.old.fields) }
+        ensures extents { self.new.extents ≡ self.old.extents }
+        ensures fields { OnOk result (Changes id (Enters key number) self.old.fields self.new.fields) }
+        ensures marked { self.new.marked ≡ self.old.marked }
+        ensures err { OnErr result (self.new ≡ self.old) }
+    {
+        add_in(alloc, &mut self.fields, id, key, number)?;
+        Ok(())
+    }
+
+    /// Takes the entry of this value and number out of the index of the field, if there is one. It
+    /// takes no memory.
+    pub fn remove(&mut self, id: u32, key: &Atom, number: u32) -> bool
+        requires { IsSome (field_at id self.old.fields) }
+        ensures there { IfSome (field_at id self.old.fields) (λ f. result ≡ list_any (is_entry key.now number) (joined f.chunks)) }
+        ensures extents { self.new.extents ≡ self.old.extents }
+        ensures fields { Changes id (Leaves key.now number) self.old.fields self.new.fields }
+        ensures marked { self.new.marked ≡ self.old.marked }
+    {
+        remove_in(&mut self.fields, id, key, number)
+    }
+
+    /// The lists as they are become what `undo` gives back. It takes no memory.
+    pub fn mark(&mut self)
+        ensures extents { (self.new.extents.chunks ≡ self.old.extents.chunks) × (self.new.extents.marked ≡ self.old.extents.chunks) }
+        ensures fields { self.new.fields ≡ map (λ f. (f.0, marked_now f.1)) self.old.fields }
+        ensures marked { self.new.marked ≡ self.new.fields }
+    {
+        self.extents.mark();
+        mark_fields(&mut self.fields);
+    }
+
+    /// The lists as they were at the mark: which fields have an index, and the chunks with their
+    /// bounds, numbers and marks of change. It takes no memory.
+    pub fn undo(&mut self)
+        ensures extents { (self.new.extents.chunks ≡ self.old.extents.marked) × (self.new.extents.marked ≡ self.old.extents.marked) }
+        ensures fields { self.new.fields ≡ self.old.marked }
+        ensures marked { self.new.marked ≡ self.old.marked }
+    {
+        self.extents.undo();
+        undo_fields(&mut self.fields);
+    }
+}
+
+/// An empty index that wasn't there at the mark.
+fn started(alloc: Global, id: u32, base: Base) -> Field
+    ensures { result ≡ record { id = id; index = record { base = base; chunks = []; marked = [] }; is_here = true; was_there = false } }
+{
+    Field {
+        id,
+        index: FieldIndex::new(alloc, base),
+        is_here: true,
+        was_there: false,
+    }
+}
+
+/// The first place of an index of this field.
+fn place_in(fields: &[Field], id: u32) -> Option<usize>
+    ensures there { IfSome result (IsPlace id fields.now) }
+    ensures none { IfNone result (Each (λ f. is_of id f ≡ false) fields.now) }
+{
+    for at in 0..fields.len() {
+        if is_here(&fields[at], id) {
+            return Some(at);
+        }
+    }
+    None
+}
+
+fn is_here(field: &Field, id: u32) -> bool
+    ensures { result ≡ is_of id field.now }
+{
+    field.is_here && field.id == id
+}
+
+fn field_in<'a>(fields: &'a [Field], id: u32) -> Option<&'a FieldIndex>
+    ensures { option_map (λ f. f.now) result ≡ field_at id (flat_map now_of fields.now) }
+{
+    match place_in(fields, id) {
+        Some(at) => Some(&fields[at].index),
+        None => None,
+    }
+}
+
+fn add_in(
+    alloc: Global,
+    fields: &mut Vec<Field>,
+    id: u32,
+    key: Atom,
+    number: u32,
+) -> Result<(), AllocError>
+    requires { IsSome (field_at id (flat_map now_of fields.old.items)) }
+    ensures fields { OnOk result (Changes id (Enters key number) (flat_map now_of fields.old.items) (flat_map now_of fields.new.items)) }
+    ensures marked { flat_map then_of fields.new.items ≡ flat_map then_of fields.old.items }
+    ensures err { OnErr result (flat_map now_of fields.new.items ≡ flat_map now_of fields.old.items) }
+{
+    let Some(at) = place_in(fields, id) else {
+        unreachable!()
+    };
+    fields[at].index.add(alloc, key, number)
+}
+
+fn remove_in(fields: &mut Vec<Field>, id: u32, key: &Atom, number: u32) -> bool
+    requires { IsSome (field_at id (flat_map now_of fields.old.items)) }
+    ensures there { IfSome (field_at id (flat_map now_of fields.old.items)) (λ f. result ≡ list_any (is_entry key.now number) (joined f.chunks)) }
+    ensures fields { Changes id (Leaves key.now number) (flat_map now_of fields.old.items) (flat_map now_of fields.new.items) }
+    ensures marked { flat_map then_of fields.new.items ≡ flat_map then_of fields.old.items }
+{
+    let Some(at) = place_in(fields, id) else {
+        unreachable!()
+    };
+    fields[at].index.remove(key, number)
+}
+
+fn end_in(fields: &mut Vec<Field>, id: u32)
+    ensures fields { flat_map now_of fields.new.items ≡ filter (λ f. not (f.0 == id)) (flat_map now_of fields.old.items) }
+    ensures marked { flat_map then_of fields.new.items ≡ flat_map then_of fields.old.items }
+{
+    for at in 0..fields.len() {
+        end_one(&mut fields[at], id);
+    }
+}
+
+fn end_one(field: &mut Field, id: u32)
+    ensures { field.new ≡ ended id field.old }
+{
+    if field.id == id {
+        field.is_here = false;
+    }
+}
+
+fn mark_fields(fields: &mut Vec<Field>)
+    ensures fields { flat_map now_of fields.new.items ≡ map (λ f. (f.0, marked_now f.1)) (flat_map now_of fields.old.items) }
+    ensures marked { flat_map then_of fields.new.items ≡ flat_map now_of fields.new.items }
+{
+    keep_here(fields);
+    mark_in(fields);
+}
+
+fn keep_here(fields: &mut Vec<Field>)
+    ensures { fields.new.items ≡ filter (λ f. f.is_here) fields.old.items }
+{
+    fields.retain(|field| field.is_here);
+}
+
+fn mark_in(fields: &mut Vec<Field>)
+    ensures { fields.new.items ≡ map marked_field fields.old.items }
+{
+    for at in 0..fields.len() {
+        mark_one(&mut fields[at]);
+    }
+}
+
+fn mark_one(field: &mut Field)
+    ensures { field.new ≡ marked_field field.old }
+{
+    field.index.mark();
+    field.was_there = field.is_here;
+}
+
+fn undo_fields(fields: &mut Vec<Field>)
+    ensures fields { flat_map now_of fields.new.items ≡ flat_map then_of fields.old.items }
+    ensures marked { flat_map then_of fields.new.items ≡ flat_map then_of fields.old.items }
+{
+    keep_there(fields);
+    undo_in(fields);
+}
+
+fn keep_there(fields: &mut Vec<Field>)
+    ensures { fields.new.items ≡ filter (λ f. f.was_there) fields.old.items }
+{
+    fields.retain(|field| field.was_there);
+}
+
+fn undo_in(fields: &mut Vec<Field>)
+    ensures { fields.new.items ≡ map undone_field fields.old.items }
+{
+    for at in 0..fields.len() {
+        undo_one(&mut fields[at]);
+    }
+}
+
+fn undo_one(field: &mut Field)
+    ensures { field.new ≡ undone_field field.old }
+{
+    field.index.undo();
+    field.is_here = field.was_there;
+}
