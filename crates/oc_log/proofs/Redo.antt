@@ -45,12 +45,12 @@ found_log : (h : Header) (d : Disk) → MayRecover h d → (ws : List CellWrite)
 found_log h d may ws is gate = elim (cases_lt (length d.bytes) (log_at h + h.log.len)) [
   | inl far ↦ absurd (clash (sym (open_none h d.bytes may.cell far) ∙ is))
   | inr inside ↦ record {
-      long = may.long;
-      cell = may.cell;
-      inside = inside;
-      log = sym (open_is h d.bytes may.cell gate inside (read_writes (is_wide h) (slice (log_at h) h.log.len d.bytes)) refl) ∙ is;
-      targets = may.targets ws is;
-    }
+    long = may.long;
+    cell = may.cell;
+    inside = inside;
+    log = sym (open_is h d.bytes may.cell gate inside (read_writes (is_wide h) (slice (log_at h) h.log.len d.bytes)) refl) ∙ is;
+    targets = may.targets ws is;
+  }
 ]
   where
     clash : None ≡ Some ws → ⊥
