@@ -209,12 +209,14 @@ fn is_before(one: usize, two: usize) -> bool {
 /// Whether these are the places with a budget, in their order, and each was asked for once.
 fn is_right(drawn: &Drawn, places: &[(usize, u32)], budgets: &[u32]) -> bool {
     let count = budgets.iter().filter(|budget| **budget > 0).count();
-    let in_order = places.windows(2).all(|pair| is_before(pair[0].0, pair[1].0));
-    let alike = places.iter().all(|place| budgets.get(place.0).copied() == Some(place.1));
-    let asked = drawn.asked.as_slice();
-    let once = places
+    let in_order = places
+        .windows(2)
+        .all(|pair| is_before(pair[0].0, pair[1].0));
+    let alike = places
         .iter()
-        .all(|place| asked.iter().filter(|one| **one == place.0).count() == 1);
+        .all(|place| budgets.get(place.0).copied() == Some(place.1));
+    let asked = drawn.asked.as_slice();
+    let once = places.iter().all(|place| asked.iter().filter(|one| **one == place.0).count() == 1);
     in_order && alike && once && places.len() == count && asked.len() == count
 }
 
@@ -228,7 +230,14 @@ fn planned(
 ) -> Result<Vec<(usize, u32)>, AllocError> {
     let alloc = drawn.alloc;
     let settings = settings_by(alloc, classes)?;
-    let list = plan(alloc, drawn, &settings, walk, node_at(root), depth.min(65_535))?;
+    let list = plan(
+        alloc,
+        drawn,
+        &settings,
+        walk,
+        node_at(root),
+        depth.min(65_535),
+    )?;
     places(alloc, list.as_slice())
 }
 
@@ -300,8 +309,16 @@ fn round(drawn: &Drawn, classes: &[ClassSettings], walk: Walk, budgets: &mut Vec
 }
 
 fn class_by(dice: &mut Dice) -> ClassSettings {
-    let minimum = if dice.is_one_of(3) { dice.roll() % 5 } else { 0 };
-    let maximum = if dice.is_one_of(3) { dice.roll() % 5 } else { 65_535 };
+    let minimum = if dice.is_one_of(3) {
+        dice.roll() % 5
+    } else {
+        0
+    };
+    let maximum = if dice.is_one_of(3) {
+        dice.roll() % 5
+    } else {
+        65_535
+    };
     ClassSettings {
         minimum,
         maximum,
@@ -329,7 +346,11 @@ fn two_thousand_graphs_are_planned_as_by_rounds(rt: HostRuntime) -> Result<(), F
     let mut most = 0;
     for turn in 0..2_000 {
         let mut drawn = drawn_by(alloc, &mut dice)?;
-        let classes = [class_by(&mut dice), class_by(&mut dice), class_by(&mut dice)];
+        let classes = [
+            class_by(&mut dice),
+            class_by(&mut dice),
+            class_by(&mut dice),
+        ];
         let walk = WALKS[turn % 7];
         let depth = dice.roll() % 9;
         let places = planned(&mut drawn, &classes, walk, 0, depth)?;
@@ -358,40 +379,122 @@ const TWO: &[&[u32]] = &[&[1], &[0]];
 
 const CHAIN: &[&[u32]] = &[&[2], &[], &[4], &[], &[6], &[], &[]];
 
-const NARROW: ClassSettings = ClassSettings { minimum: 0, maximum: 0, ..PLAIN };
+const NARROW: ClassSettings = ClassSettings {
+    minimum: 0,
+    maximum: 0,
+    ..PLAIN
+};
 
-const DEEP: ClassSettings = ClassSettings { minimum: 2, ..PLAIN };
+const DEEP: ClassSettings = ClassSettings {
+    minimum: 2,
+    ..PLAIN
+};
 
-const CROSSED: ClassSettings = ClassSettings { minimum: 5, maximum: 2, ..PLAIN };
+const CROSSED: ClassSettings = ClassSettings {
+    minimum: 5,
+    maximum: 2,
+    ..PLAIN
+};
 
-const CASCADES: ClassSettings = ClassSettings { cascade_activate: true, ..PLAIN };
+const CASCADES: ClassSettings = ClassSettings {
+    cascade_activate: true,
+    ..PLAIN
+};
 
-const OTHERS: ClassSettings = ClassSettings { cascade_update: true, cascade_delete: true, ..PLAIN };
+const OTHERS: ClassSettings = ClassSettings {
+    cascade_update: true,
+    cascade_delete: true,
+    ..PLAIN
+};
 
 const ROWS: &[Row] = &[
-    (DIAMOND, &[], PLAIN, Walk::Activate, 1, 4, &[(1, 4), (3, 2), (5, 2), (2, 3), (4, 3), (6, 1)]),
+    (
+        DIAMOND,
+        &[],
+        PLAIN,
+        Walk::Activate,
+        1,
+        4,
+        &[(1, 4), (3, 2), (5, 2), (2, 3), (4, 3), (6, 1)],
+    ),
     (DIAMOND, &[], PLAIN, Walk::Activate, 1, 0, &[]),
     (DIAMOND, &[], PLAIN, Walk::Activate, 1, 1, &[(1, 1)]),
     (TWO, &[], PLAIN, Walk::Activate, 0, 3, &[(1, 2), (0, 3)]),
-    (TWO, &[], PLAIN, Walk::Deactivate, 0, 65_535, &[(1, 65_534), (0, 65_535)]),
+    (
+        TWO,
+        &[],
+        PLAIN,
+        Walk::Deactivate,
+        0,
+        65_535,
+        &[(1, 65_534), (0, 65_535)],
+    ),
     // A minimum of 2 is met with budget 0.
-    (CHAIN, &[0, 0, 1], DEEP, Walk::Activate, 0, 1, &[(0, 1), (2, 2), (4, 1)]),
+    (
+        CHAIN,
+        &[0, 0, 1],
+        DEEP,
+        Walk::Activate,
+        0,
+        1,
+        &[(0, 1), (2, 2), (4, 1)],
+    ),
     (CHAIN, &[0, 0, 1], DEEP, Walk::Deactivate, 0, 1, &[(0, 1)]),
     // The maximum is less than the minimum.
-    (CHAIN, &[0, 0, 1], CROSSED, Walk::Activate, 0, 9, &[(0, 9), (2, 2), (4, 1)]),
+    (
+        CHAIN,
+        &[0, 0, 1],
+        CROSSED,
+        Walk::Activate,
+        0,
+        9,
+        &[(0, 9), (2, 2), (4, 1)],
+    ),
     // The root has the maximum 0.
     (CHAIN, &[1], NARROW, Walk::Activate, 0, 9, &[]),
-    (CHAIN, &[1], NARROW, Walk::Refresh, 0, 9, &[(0, 9), (2, 8), (4, 7), (6, 6)]),
+    (
+        CHAIN,
+        &[1],
+        NARROW,
+        Walk::Refresh,
+        0,
+        9,
+        &[(0, 9), (2, 8), (4, 7), (6, 6)],
+    ),
     // The class of the node that hands on cascades, and not that of the node that is met.
-    (CHAIN, &[1], CASCADES, Walk::Activate, 0, 1, &[(0, 1), (2, 1)]),
+    (
+        CHAIN,
+        &[1],
+        CASCADES,
+        Walk::Activate,
+        0,
+        1,
+        &[(0, 1), (2, 1)],
+    ),
     (CHAIN, &[0, 0, 1], CASCADES, Walk::Activate, 0, 1, &[(0, 1)]),
-    (CHAIN, &[1, 0, 1, 0, 1], CASCADES, Walk::Activate, 0, 1, &[(0, 1), (2, 1), (4, 1), (6, 1)]),
+    (
+        CHAIN,
+        &[1, 0, 1, 0, 1],
+        CASCADES,
+        Walk::Activate,
+        0,
+        1,
+        &[(0, 1), (2, 1), (4, 1), (6, 1)],
+    ),
     (CHAIN, &[1], CASCADES, Walk::Deactivate, 0, 1, &[(0, 1)]),
     (CHAIN, &[1], CASCADES, Walk::Refresh, 0, 1, &[(0, 1)]),
     (CHAIN, &[1], CASCADES, Walk::Peek, 0, 1, &[(0, 1)]),
     (CHAIN, &[1], OTHERS, Walk::Activate, 0, 1, &[(0, 1)]),
     (CHAIN, &[], PLAIN, Walk::Peek, 0, 2, &[(0, 2), (2, 1)]),
-    (CHAIN, &[], PLAIN, Walk::Show, 0, 0, &[(0, 1), (2, 1), (4, 1), (6, 1)]),
+    (
+        CHAIN,
+        &[],
+        PLAIN,
+        Walk::Show,
+        0,
+        0,
+        &[(0, 1), (2, 1), (4, 1), (6, 1)],
+    ),
     (TWO, &[], PLAIN, Walk::Show, 1, 65_535, &[(1, 1), (0, 1)]),
 ];
 

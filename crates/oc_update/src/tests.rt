@@ -188,12 +188,14 @@ fn is_before(one: usize, two: usize) -> bool {
 /// Whether these are the places with a budget, in their order, and each was asked for once.
 fn is_right(drawn: &Drawn, places: &[(usize, u32)], budgets: &[u32]) -> bool {
     let count = budgets.iter().filter(|budget| **budget > 0).count();
-    let in_order = places.windows(2).all(|pair| is_before(pair[0].0, pair[1].0));
-    let alike = places.iter().all(|place| budgets.get(place.0).copied() == Some(place.1));
-    let asked = drawn.asked.as_slice();
-    let once = places
+    let in_order = places
+        .windows(2)
+        .all(|pair| is_before(pair[0].0, pair[1].0));
+    let alike = places
         .iter()
-        .all(|place| asked.iter().filter(|one| **one == place.0).count() == 1);
+        .all(|place| budgets.get(place.0).copied() == Some(place.1));
+    let asked = drawn.asked.as_slice();
+    let once = places.iter().all(|place| asked.iter().filter(|one| **one == place.0).count() == 1);
     in_order && alike && once && places.len() == count && asked.len() == count
 }
 
@@ -223,7 +225,11 @@ fn planned(
 
 fn arrives(drawn: &Drawn, kind: Kind, place: usize, handed: u32) -> u32 {
     let fresh = number_at(drawn.fresh.as_slice(), place) == 1;
-    if kind == Kind::Store && fresh { handed.max(1) } else { handed }
+    if kind == Kind::Store && fresh {
+        handed.max(1)
+    } else {
+        handed
+    }
 }
 
 fn hands(kind: Kind, class: ClassSettings, budget: u32) -> u32 {
@@ -304,8 +310,16 @@ fn two_thousand_graphs_are_planned_as_by_rounds(rt: HostRuntime) -> Result<(), F
     let mut most = 0;
     for turn in 0..2_000 {
         let mut drawn = drawn_by(alloc, &mut dice)?;
-        let classes = [class_by(&mut dice), class_by(&mut dice), class_by(&mut dice)];
-        let kind = if turn % 3 == 0 { Kind::Delete } else { Kind::Store };
+        let classes = [
+            class_by(&mut dice),
+            class_by(&mut dice),
+            class_by(&mut dice),
+        ];
+        let kind = if turn % 3 == 0 {
+            Kind::Delete
+        } else {
+            Kind::Store
+        };
         let depth = dice.roll() % 7;
         let places = planned(&mut drawn, &classes, kind, 0, depth)?;
         let budgets = by_rounds(&drawn, &classes, kind, depth)?;
@@ -334,9 +348,15 @@ const TWO: &[&[u32]] = &[&[1], &[0]];
 
 const CHAIN: &[&[u32]] = &[&[1], &[2], &[3], &[4], &[]];
 
-const UPDATES: ClassSettings = ClassSettings { cascade_update: true, ..PLAIN };
+const UPDATES: ClassSettings = ClassSettings {
+    cascade_update: true,
+    ..PLAIN
+};
 
-const DELETES: ClassSettings = ClassSettings { cascade_delete: true, ..PLAIN };
+const DELETES: ClassSettings = ClassSettings {
+    cascade_delete: true,
+    ..PLAIN
+};
 
 const OTHERS: ClassSettings = ClassSettings {
     minimum: 3,
@@ -346,32 +366,149 @@ const OTHERS: ClassSettings = ClassSettings {
 };
 
 const ROWS: &[Row] = &[
-    (DIAMOND, &[], &[], PLAIN, Kind::Store, 1, 4, &[(1, 4), (3, 2), (5, 2), (2, 3), (4, 3), (6, 1)]),
+    (
+        DIAMOND,
+        &[],
+        &[],
+        PLAIN,
+        Kind::Store,
+        1,
+        4,
+        &[(1, 4), (3, 2), (5, 2), (2, 3), (4, 3), (6, 1)],
+    ),
     (DIAMOND, &[], &[], PLAIN, Kind::Store, 2, 0, &[]),
     (TWO, &[], &[], PLAIN, Kind::Store, 0, 3, &[(1, 2), (0, 3)]),
-    (TWO, &[1, 1], &[], OTHERS, Kind::Store, 0, 3, &[(1, 2), (0, 3)]),
-    (TWO, &[], &[], PLAIN, Kind::Store, 0, 65_535, &[(1, 65_534), (0, 65_535)]),
+    (
+        TWO,
+        &[1, 1],
+        &[],
+        OTHERS,
+        Kind::Store,
+        0,
+        3,
+        &[(1, 2), (0, 3)],
+    ),
+    (
+        TWO,
+        &[],
+        &[],
+        PLAIN,
+        Kind::Store,
+        0,
+        65_535,
+        &[(1, 65_534), (0, 65_535)],
+    ),
     // A stored object that is named isn't written with depth 1.
     (CHAIN, &[], &[], PLAIN, Kind::Store, 0, 1, &[(0, 1)]),
     // An unsaved one is, and so is one that only unsaved ones lead to.
-    (CHAIN, &[], &[0, 1], PLAIN, Kind::Store, 0, 1, &[(1, 1), (0, 1)]),
-    (CHAIN, &[], &[0, 1, 1, 1], PLAIN, Kind::Store, 0, 1, &[(1, 1), (3, 1), (0, 1), (2, 1)]),
-    (CHAIN, &[], &[0, 1, 0, 1], PLAIN, Kind::Store, 0, 1, &[(1, 1), (0, 1)]),
-    (CHAIN, &[], &[0, 1, 0, 1], PLAIN, Kind::Store, 0, 3, &[(1, 2), (3, 1), (0, 3), (2, 1)]),
+    (
+        CHAIN,
+        &[],
+        &[0, 1],
+        PLAIN,
+        Kind::Store,
+        0,
+        1,
+        &[(1, 1), (0, 1)],
+    ),
+    (
+        CHAIN,
+        &[],
+        &[0, 1, 1, 1],
+        PLAIN,
+        Kind::Store,
+        0,
+        1,
+        &[(1, 1), (3, 1), (0, 1), (2, 1)],
+    ),
+    (
+        CHAIN,
+        &[],
+        &[0, 1, 0, 1],
+        PLAIN,
+        Kind::Store,
+        0,
+        1,
+        &[(1, 1), (0, 1)],
+    ),
+    (
+        CHAIN,
+        &[],
+        &[0, 1, 0, 1],
+        PLAIN,
+        Kind::Store,
+        0,
+        3,
+        &[(1, 2), (3, 1), (0, 3), (2, 1)],
+    ),
     // An unsaved root is stored with depth 0, and a stored one isn't.
     (CHAIN, &[], &[0, 1], PLAIN, Kind::Store, 1, 0, &[(1, 1)]),
     (CHAIN, &[], &[], PLAIN, Kind::Store, 1, 0, &[]),
     // The class of the node that hands on cascades, and not that of the node that is met.
-    (CHAIN, &[1], &[], UPDATES, Kind::Store, 0, 1, &[(1, 1), (0, 1)]),
+    (
+        CHAIN,
+        &[1],
+        &[],
+        UPDATES,
+        Kind::Store,
+        0,
+        1,
+        &[(1, 1), (0, 1)],
+    ),
     (CHAIN, &[0, 1], &[], UPDATES, Kind::Store, 0, 1, &[(0, 1)]),
-    (CHAIN, &[1, 1], &[], UPDATES, Kind::Store, 0, 1, &[(1, 1), (0, 1), (2, 1)]),
+    (
+        CHAIN,
+        &[1, 1],
+        &[],
+        UPDATES,
+        Kind::Store,
+        0,
+        1,
+        &[(1, 1), (0, 1), (2, 1)],
+    ),
     (CHAIN, &[1, 1], &[], DELETES, Kind::Store, 0, 1, &[(0, 1)]),
     (CHAIN, &[], &[], PLAIN, Kind::Delete, 0, 0, &[(0, 1)]),
-    (CHAIN, &[1], &[], DELETES, Kind::Delete, 0, 0, &[(1, 1), (0, 1)]),
+    (
+        CHAIN,
+        &[1],
+        &[],
+        DELETES,
+        Kind::Delete,
+        0,
+        0,
+        &[(1, 1), (0, 1)],
+    ),
     (CHAIN, &[0, 1], &[], DELETES, Kind::Delete, 0, 0, &[(0, 1)]),
-    (CHAIN, &[1, 1, 0, 1], &[], DELETES, Kind::Delete, 0, 0, &[(1, 1), (0, 1), (2, 1)]),
-    (CHAIN, &[1, 1], &[0, 1, 1], UPDATES, Kind::Delete, 0, 0, &[(0, 1)]),
-    (TWO, &[1, 1], &[], DELETES, Kind::Delete, 1, 0, &[(1, 1), (0, 1)]),
+    (
+        CHAIN,
+        &[1, 1, 0, 1],
+        &[],
+        DELETES,
+        Kind::Delete,
+        0,
+        0,
+        &[(1, 1), (0, 1), (2, 1)],
+    ),
+    (
+        CHAIN,
+        &[1, 1],
+        &[0, 1, 1],
+        UPDATES,
+        Kind::Delete,
+        0,
+        0,
+        &[(0, 1)],
+    ),
+    (
+        TWO,
+        &[1, 1],
+        &[],
+        DELETES,
+        Kind::Delete,
+        1,
+        0,
+        &[(1, 1), (0, 1)],
+    ),
 ];
 
 #[test]
