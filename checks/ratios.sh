@@ -6,7 +6,8 @@
 set -eu
 cd "$(dirname "$0")/.."
 bench=$PWD/crates/oc_bench/out/oc_bench
-[ -x "$bench" ] || { echo "skipped: oc_bench isn't built; rt ci leaves it"; exit 0; }
+walks=$PWD/crates/bench_walks/out/bench_walks
+[ -x "$bench" ] && [ -x "$walks" ] || { echo "skipped: the programs for measuring aren't built; rt ci leaves them"; exit 0; }
 command -v awk >/dev/null || { echo "skipped: there is no awk here"; exit 0; }
 
 # user PIECE COUNT TURNS: the user time of so many runs, in milliseconds.
@@ -49,3 +50,10 @@ grows lines 100000 400000 4 4.6
 grows line 32767 65535 4 2.3
 grows decode 100000 400000 20 4.6
 grows classes 5000 10000 20 2.6
+
+bench=$walks
+grows store_chain 100000 400000 10 4.8
+grows store_star 100000 400000 10 4.8
+grows activate_chain 15000 60000 40 4.8
+grows activate_complete 400 800 40 4.8
+grows activate_cycle 1000 4000 200 4.8
