@@ -6,3 +6,4 @@ pub mod HeldGives
 pub mod OneMap
 pub mod Things
 pub mod Writes
+pub mod Placing

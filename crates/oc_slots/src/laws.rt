@@ -1,5 +1,5 @@
 // What holds of files of the form. The functions do nothing.
-ghost use Rattle.std.specs.Prelude.{◌≡◌, ◌⊎◌, ◌≤◌, ◌+◌, ℕ, List, ◌∷◌, length, All};
+ghost use Rattle.std.specs.Prelude.{◌≡◌, ◌⊎◌, ◌<◌, ◌≤◌, ◌+◌, ◌*◌, ℕ, List, ◌∷◌, ◌++◌, length, slice_index_or, All};
 ghost use Rattle.oc_host.specs.Disk.{Disk, IsDisk, IsImage, now, writing, wrote};
 ghost use Rattle.oc_layout.specs.declared.cells.Header.{Header};
 ghost use Rattle.oc_layout.specs.declared.cells.Cell.{Cell};
@@ -8,6 +8,9 @@ ghost use Rattle.oc_log.specs.Log.{with_log, put_cells};
 ghost use Rattle.oc_log.specs.Stops.{NoneOrAll};
 ghost use Rattle.oc_slots.specs.Commits.{IsCommit};
 ghost use Rattle.oc_pages.specs.declared.page.Page.{Page};
+ghost use Rattle.oc_free.specs.FreeParts.{free_at};
+ghost use Rattle.oc_room.specs.Rooms.{Space, Tiles, owners, open_at};
+ghost use Rattle.oc_pages.specs.Pages.{no_cell};
 ghost use Rattle.oc_slots.specs.Maps.{SlotMap, Same};
 ghost use Rattle.oc_slots.specs.Forms.{Gives, header_cell};
 ghost use Rattle.oc_slots.specs.Held.{IsBeside, Holds, map_of};
@@ -37,4 +40,14 @@ pub fn laws_of_stops()
         (image said : List ℕ) → NoneOrAll (with_log header place) cells disk image said →
         (said ≡ disk.said)
         × (Gives image (map_of header old disk.bytes) ⊎ Gives image (map_of header new (put_cells cells disk.bytes))) }
+{}
+
+/// Things that are placed by a room tile the file with those that were there, and each of these is beside each of
+/// them.
+pub fn laws_of_placing()
+    ensures placed { (old new : Space) (things cells : List Cell) → Tiles old things → new.unit ≡ old.unit → old.end ≤ new.end →
+        ((k : ℕ) → open_at old k ≡ open_at new k + owners old.unit cells k) → ((k : ℕ) → new.end ≤ k → free_at new.parts k ≡ 0) →
+        Tiles new (things ++ cells)
+        × (0 < old.unit → All (λ c. 1 ≤ c.len) things → All (λ c. 1 ≤ c.len) cells → (i : ℕ) → i < length cells →
+        All (IsBeside old.unit ((slice_index_or cells i no_cell).at * old.unit) (slice_index_or cells i no_cell).len) things) }
 {}
