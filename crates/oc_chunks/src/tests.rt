@@ -177,9 +177,9 @@ fn what_lies_between_two_entries(rt: HostRuntime) -> Result<(), Fail> {
         let (low, high) = (Key { at: low }, Key { at: high });
         let (low, high) = (At { entry: &low }, At { entry: &high });
         assert_eq!(rt; list.count(&low, &high), count);
-        let mut sum = 0;
+        let mut sum: u64 = 0;
         for slice in &list.between(rt.alloc(), &low, &high)? {
-            sum += slice.len() as u64;
+            sum = sum.wrapping_add(slice.len() as u64);
         }
         assert_eq!(rt; sum, count);
     }
