@@ -6,8 +6,8 @@
 set -eu
 cd "$(dirname "$0")/.."
 bench=$PWD/crates/oc_bench/out/oc_bench
-walks=$PWD/crates/bench_walks/out/bench_walks
-[ -x "$bench" ] && [ -x "$walks" ] || { echo "skipped: the programs for measuring aren't built; rt ci leaves them"; exit 0; }
+parts=$PWD/crates/bench_parts/out/bench_parts
+[ -x "$bench" ] && [ -x "$parts" ] || { echo "skipped: the programs for measuring aren't built; rt ci leaves them"; exit 0; }
 command -v awk >/dev/null || { echo "skipped: there is no awk here"; exit 0; }
 
 # user PIECE COUNT TURNS: the user time of so many runs, in milliseconds.
@@ -46,14 +46,27 @@ grows() {
     }'
 }
 
+# faster PIECE OTHER COUNT TURNS MOST: the one takes at most that many times as long as the other.
+faster() {
+    one=$(user "$1" "$3" "$4")
+    other=$(user "$2" "$3" "$4")
+    [ "$other" -gt 0 ] || { echo "FAILED: $2 $3 didn't run, or took no time" >&2; exit 1; }
+    awk -v what="$1" -v beside="$2" -v count="$3" -v a="$one" -v b="$other" -v turns="$4" -v most="$5" 'BEGIN {
+        printf "%s %d: %.1f ms, %s: %.1f ms, %.2f times as long, wanted at most %s%s\n", what, count, a / turns, beside, b / turns, a / b, most,
+            (a / b > most ? ": TOO GREAT in this run" : "")
+    }'
+}
+
 grows lines 100000 400000 4 4.6
 grows line 32767 65535 4 2.3
 grows decode 100000 400000 20 4.6
 grows classes 5000 10000 20 2.6
 
-bench=$walks
+bench=$parts
 grows store_chain 100000 400000 10 4.8
 grows store_star 100000 400000 10 4.8
 grows activate_chain 15000 60000 40 4.8
 grows activate_complete 400 800 40 4.8
 grows activate_cycle 1000 4000 200 4.8
+grows index 100000 400000 2 4.8
+faster index map 100000 4 20

@@ -1,7 +1,7 @@
 use Rattle.std.specs.List.{All}
 use Rattle.oc_model.specs.Lists.{IsOneOf}
-use Rattle.bench_walks.specs.Rows.{row}
-use Rattle.bench_walks.proofs.walks.between.Given as goal
+use Rattle.bench_parts.specs.Rows.{row}
+use Rattle.bench_parts.proofs.walks.between.Given as goal
 
 abbrev pub invariant-loop-handle : goal.invariant-loop-handle
 invariant-loop-handle l = All (λ y. IsOneOf y (row l.count)) l.nodes.items

@@ -1,8 +1,9 @@
-//! `bench_walks WALK COUNT`: plans a walk over a graph of so many objects, and says how many it reaches. Whoever
-//! starts it takes its time.
+//! `bench_parts PIECE COUNT`: plans a walk over a graph of so many objects, or puts so many entries into a list, and
+//! says how many it reaches or has. Whoever starts it takes its time.
 #![tactic(auto)]
 
 mod fault;
+mod inserts;
 mod walks;
 
 use fault::Fault;
@@ -15,44 +16,46 @@ use walks::Shape;
 /// What the words ask for.
 #[derive(Drop)]
 struct Work {
-    walk: String,
+    piece: String,
     count: u32,
 }
 
 /// The two words behind the program's name; nothing where they are others.
 fn work_of<R: Env + AllocGlobal>(rt: &R) -> Result<Option<Work>, Fault> {
     let mut words = env::args(rt)?.skip(1);
-    let (Some(walk), Some(count)) = (words.next(), words.next()) else {
+    let (Some(piece), Some(count)) = (words.next(), words.next()) else {
         return Ok(None);
     };
     let Ok(count) = count.as_str().parse::<u32>() else {
         return Ok(None);
     };
-    Ok(Some(Work { walk, count }))
+    Ok(Some(Work { piece, count }))
 }
 
-/// How many objects are reached; nothing where there is no such walk.
-fn reached(alloc: Global, work: &Work) -> Result<Option<u64>, Fault> {
-    match work.walk.as_str() {
+/// How many objects are reached, or entries are there; nothing where there is no such piece.
+fn counted(alloc: Global, work: &Work) -> Result<Option<u64>, Fault> {
+    match work.piece.as_str() {
         "store_chain" => walks::stored(alloc, Shape::Chain, work.count).map(Some),
         "store_star" => walks::stored(alloc, Shape::Star, work.count).map(Some),
         "activate_chain" => walks::activated(alloc, Shape::Chain, 0, work.count).map(Some),
         "activate_complete" => walks::activated(alloc, Shape::Complete, 0, work.count).map(Some),
         "activate_cycle" => walks::activated(alloc, Shape::Cycle, 3, work.count).map(Some),
+        "index" => inserts::into_index(alloc, work.count).map(Some),
+        "map" => inserts::into_map(alloc, work.count).map(Some),
         _ => Ok(None),
     }
 }
 
 fn bench<R: Env + Print + AllocGlobal>(rt: &R) -> Result<ExitCode, Fault> {
     let Some(work) = work_of(rt)? else {
-        println!(rt; "bench_walks WALK COUNT")?;
+        println!(rt; "bench_parts PIECE COUNT")?;
         return Ok(ExitCode::from(2));
     };
-    let Some(count) = reached(rt.alloc(), &work)? else {
-        println!(rt; "there is no such walk")?;
+    let Some(count) = counted(rt.alloc(), &work)? else {
+        println!(rt; "there is no such piece")?;
         return Ok(ExitCode::from(2));
     };
-    println!(rt; "{} {}: {count}", work.walk, work.count)?;
+    println!(rt; "{} {}: {count}", work.piece, work.count)?;
     Ok(ExitCode::SUCCESS)
 }
 

@@ -1,9 +1,9 @@
 use Rattle.std.proofs.Common.{◌<◌, arith}
 use Rattle.std.proofs.lemmas.List.Elements.{All-push}
 use Rattle.oc_model.specs.Lists.{IsOneOf}
-use Rattle.bench_walks.specs.Rows.{row}
-use Rattle.bench_walks.proofs.Among.{among}
-use Rattle.bench_walks.proofs.walks.between.Goals as goal
+use Rattle.bench_parts.specs.Rows.{row}
+use Rattle.bench_parts.proofs.Among.{among}
+use Rattle.bench_parts.proofs.walks.between.Goals as goal
 
 pub loop-handle-preserved : goal.loop-handle-preserved
 loop-handle-preserved c =

@@ -4,7 +4,7 @@ use Rattle.std.proofs.lemmas.Bool.{cases_lt}
 use Rattle.oc_model.specs.declared.reach.Node.{Node}
 use Rattle.oc_model.specs.declared.reach.Node.TheVariants as node
 use Rattle.oc_model.specs.Lists.{IsOneOf}
-use Rattle.bench_walks.specs.Rows.{row}
+use Rattle.bench_parts.specs.Rows.{row}
 
 pub among : (n k : ℕ) → n < k → IsOneOf (node.Live n) (row k)
 among n zero h = absurd (omega (arith, h))

@@ -6,7 +6,7 @@ ghost use Rattle.std.proofs.Common.{◌∙◌, ap, sym};
 ghost use Rattle.oc_model.specs.declared.reach.Node.{Node};
 ghost use Rattle.oc_model.specs.Lists.{IsOneOf};
 ghost use Rattle.oc_reach.specs.Graphs.{AreInRange};
-ghost use Rattle.bench_walks.specs.Rows.{row, row_graph, row_closed};
+ghost use Rattle.bench_parts.specs.Rows.{row, row_graph, row_closed};
 
 use crate::fault::Fault;
 use oc_activate::{Walk, plan};
