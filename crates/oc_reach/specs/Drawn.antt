@@ -35,6 +35,24 @@ drawn_lawful least =
       inside = λ x y i. absurd i;
     }
 
+-- two numbers, each of which names both
+abbrev pub both : List Node
+both = node.Number 0 ∷ node.Number 1 ∷ []
+
+-- a node arrives with what it is handed
+abbrev pub both_walk : Walk
+both_walk = record { nodes = both; next = λ x. both; arrive = λ x h. h; hand = λ x k. k - 1 }
+
+pub both_lawful : IsLawful both_walk
+both_lawful =
+    record {
+      arrive_small = λ x k h. h;
+      arrive_rises = λ x j k h _. h;
+      hand_small = λ x k _ h. omega arith;
+      hand_rises = λ x j k _ h _. omega arith;
+      inside = λ x y i. i;
+    }
+
 among : (make : ℕ → Node) (n k : ℕ) → n < k → IsOneOf (make n) (below make k)
 among make n zero h = absurd (omega arith)
 among make n (suc k) h = elim (cases_lt n k) [ inl lt ↦ inr (among make n k lt) | inr ge ↦ let e : n ≡ k = omega arith in inl (ap make e) ]

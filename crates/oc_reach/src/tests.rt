@@ -1,8 +1,8 @@
-ghost use Rattle.std.specs.Prelude.{◌≡◌, ◌≤◌, false, refl, slice_index, IfOk};
+ghost use Rattle.std.specs.Prelude.{◌≡◌, ◌≤◌, true, false, refl, slice_index, IfOk};
 ghost use Rattle.std.specs.List.{All};
 ghost use Rattle.std.proofs.Common.{sym, ap, ◌∙◌};
 ghost use Rattle.oc_model.specs.Lists.{IsOneOf};
-ghost use Rattle.oc_reach.specs.Drawn.{every_node, place, drawn_walk, drawn_lawful};
+ghost use Rattle.oc_reach.specs.Drawn.{every_node, place, drawn_walk, drawn_lawful, both, both_walk, both_lawful};
 
 use crate::{Node, Settings, Spread, reached};
 use std::alloc::{AllocError, Global};
@@ -130,6 +130,65 @@ impl Drawn {
         }
         Ok(places)
     }
+}
+
+/// Two numbers, each of which names both: a graph that tells its edges.
+#[derive(Drop)]
+struct Both {
+    alloc: Global,
+}
+
+impl Spread for Both {
+    type Fault = AllocError;
+
+    ghost tells = { true };
+
+    ghost walk = { λ s. both_walk };
+
+    ghost Goes = { λ s t xs. s ≡ s };
+
+    ghost Caused = { λ s f t xs. s ≡ s };
+
+    fn next(&mut self, node: Node) -> Result<Vec<Node>, AllocError> {
+        let mut nodes = Vec::new(self.alloc);
+        nodes.push(Node::Number(0))?;
+        nodes.push(Node::Number(1))?;
+        Ok(nodes)
+    }
+
+    fn arrive(&self, node: Node, handed: u32) -> u32 {
+        handed
+    }
+
+    fn hand(&self, node: Node, budget: u32) -> u32 {
+        budget - 1
+    }
+
+    ghost lawful = { λ s. both_lawful };
+
+    ghost same = { λ s t xs h. refl };
+
+    ghost same_at_fault = { λ s t f xs h. refl };
+
+    ghost stays = { λ s. refl };
+
+    ghost joins = { λ s t u xs ys a b. refl };
+
+    ghost memory = { λ s f h. refl };
+
+    ghost fails = { λ s t u f xs ys a b. refl };
+}
+
+#[test]
+fn a_graph_that_tells_is_reached(rt: HostRuntime) -> Result<(), Fail> {
+    let alloc = rt.alloc();
+    let mut both = Both { alloc };
+    let mut budgets = Vec::new(alloc);
+    for (node, budget) in reached(alloc, &mut both, Node::Number(0), 3)? {
+        budgets.push((place_of(node), budget))?;
+    }
+    assert!(rt; budgets.as_slice() == [(0, 3), (1, 2)].as_slice());
+    Ok(())
 }
 
 /// What the walk is by its definition: rounds in which each place hands on what it has, until nothing rises.
