@@ -6,7 +6,7 @@ use Rattle.std.proofs.lemmas.List.{get_or_past}
 use Rattle.oc_layout.specs.declared.cells.CellWrite.{CellWrite}
 use Rattle.oc_layout.specs.declared.cells.Header.{Header}
 use Rattle.oc_layout.specs.Layout.{is_wide, unit_of, first_cell, read_writes}
-use Rattle.oc_host.specs.Disk.{Disk, IsImage, IsDisk, IsSynced, LeavesOnly, Looks, over, now}
+use Rattle.oc_host.specs.Disk.{Disk, IsImage, IsDisk, LeavesOnly, Looks, over, now}
 use Rattle.oc_host.proofs.Moments.{only_bytes, then_runs, said_stays, weaken}
 use Rattle.oc_log.specs.Log.{slice, put_cells, log_at, open_writes, put_found, settled, AreTargets}
 use Rattle.oc_log.specs.States.{HasLog, IsOpened, MayRecover}

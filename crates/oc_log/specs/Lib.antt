@@ -1,3 +1,4 @@
+pub mod Drafts
 pub mod Log
 pub mod Runs
 pub mod States

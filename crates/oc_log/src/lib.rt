@@ -3,6 +3,7 @@
 
 mod applying;
 mod cells;
+mod draft;
 mod fault;
 mod gate;
 mod preparing;
@@ -14,9 +15,9 @@ mod whole;
 
 pub use applying::apply;
 pub use cells::Cells;
+pub use draft::Draft;
 pub use fault::LogFault;
 pub use gate::{close_gate, open_gate};
-pub use oc_host::IoFault;
 pub use preparing::prepare;
 pub use recovery::recover;
 pub use states::{Applied, Opened, Prepared};

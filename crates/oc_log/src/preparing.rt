@@ -1,57 +1,53 @@
 // The log is written behind a closed gate.
-ghost use Rattle.std.specs.Prelude.{◌≡◌, ◌≤◌, ◌+◌, ◌-◌, ◌*◌, ◌++◌, length, replicate, IsTrue, IfOk, OnOk, IsErrOf};
-ghost use Rattle.oc_host.specs.Counts.{HasCause, Rose};
+ghost use Rattle.std.specs.Prelude.{◌≡◌, ◌≤◌, ◌+◌, ◌-◌, ◌*◌, ◌++◌, length, replicate, IsTrue, IfOk, OnOk};
+ghost use Rattle.oc_host.specs.Counts.{HasCause};
 ghost use Rattle.oc_host.specs.Disk.{LeavesOnly};
 ghost use Rattle.oc_layout.specs.Layout.{FitsCell, IsLog, is_wide, unit_of, write_len, log_bytes};
 ghost use Rattle.oc_log.specs.Log.{with_log, staged};
 ghost use Rattle.oc_log.specs.States.{MayPrepare, IsPrepared};
 ghost use Rattle.oc_log.specs.Stops.{HasNone};
 
-use crate::{Cells, IoFault, Prepared};
+use crate::{Draft, Prepared};
 use oc_host::{Failed, Host};
-use oc_layout::{Cell, CellWrite, Header, write_cell, write_log};
-use std::alloc::{AllocError, Global};
+use oc_layout::{Cell, Header, write_cell};
 
 const LOG_CELL: u64 = 32;
 
-/// Writes a log of these cells at this place and the place into the log cell, and syncs. At every stop none of the
-/// cells is put in.
+/// Writes a log of the draft's cells at this place and the place into the log cell, and syncs. At every stop none of
+/// the cells is put in.
 ///
 /// The place counts blocks. Where it is the block behind the file's end, which may end within a block, the log's
-/// write begins at the end, with zeros up to the place. All memory is taken before the first call on the host.
-/// After `IoFault::Host` the file is to be recovered.
+/// write begins at the end, with zeros up to the place. It takes no memory. After `Failed` the file is to be
+/// recovered.
 pub fn prepare<H: Host>(
-    alloc: Global,
     host: &mut H,
     header: &Header,
     place: Cell,
-    cells: &[CellWrite],
-) -> Result<Prepared, IoFault>
-    requires log { IsLog (is_wide header.now) cells.now }
-    requires len { place.len ≡ 4 + write_len (is_wide header.now) * length cells.now }
-    requires may { IsTrue H.tells → MayPrepare (with_log header.now place) cells.now (H.disk host.old) }
+    draft: Draft,
+) -> Result<Prepared, Failed>
+    requires form { draft.wide ≡ is_wide header.now }
+    requires unit { draft.unit ≡ unit_of header.now }
+    requires len { place.len ≡ 4 + write_len (is_wide header.now) * length draft.writes }
+    requires may { IsTrue H.tells → MayPrepare (with_log header.now place) draft.writes (H.disk host.old) }
     ensures same { IfOk result (λ prepared.
-        (prepared.header ≡ with_log header.now place) × (prepared.cells.writes.items ≡ cells.now)) }
+        (prepared.header ≡ with_log header.now place) × (prepared.cells.writes.items ≡ draft.writes)) }
     ensures ok { OnOk result (IsTrue H.tells →
-        IsPrepared (with_log header.now place) cells.now (H.disk host.new)) }
+        IsPrepared (with_log header.now place) draft.writes (H.disk host.new)) }
     ensures bytes { OnOk result (IsTrue H.tells →
-        (H.disk host.new).bytes ≡ staged (with_log header.now place) cells.now (H.disk host.old).bytes) }
+        (H.disk host.new).bytes ≡ staged (with_log header.now place) draft.writes (H.disk host.old).bytes) }
     ensures any_moment { IsTrue H.tells →
         LeavesOnly (H.disk host.old) (H.disk host.new) (HasNone (with_log header.now place) (H.disk host.old)) }
-    ensures later { H.faults host.old ≤ H.faults host.new }
-    ensures cause { IsErrOf result IoFault.Host → Rose (H.faults host.old) (H.faults host.new) }
-    ensures memory { IsErrOf result IoFault.Memory → host.new ≡ host.old }
+    ensures cause { HasCause result (H.faults host.old) (H.faults host.new) }
     ensures taken { H.taken host.new ≡ H.taken host.old }
 {
-    let log = padded_log(alloc, padding_of(header), cells, header.is_wide())?;
     let prepared = Prepared {
         header: Header {
             log: place,
             ..*header
         },
-        cells: Cells::of(alloc, cells.to_vec(alloc)?)?,
+        cells: draft.cells,
     };
-    stage(host, &prepared, &log)?;
+    stage(host, &prepared, &draft.log)?;
     Ok(prepared)
 }
 
@@ -60,22 +56,6 @@ fn padding_of(header: &Header) -> u64
     ensures { result ≡ unit_of header.now - 1 }
 {
     (header.unit() as u64).saturating_sub(1)
-}
-
-// The log's bytes, with zeros before them.
-fn padded_log(
-    alloc: Global,
-    padding: u64,
-    cells: &[CellWrite],
-    wide: bool,
-) -> Result<Vec<u8>, AllocError>
-    requires { IsLog wide cells.now }
-    ensures { IfOk result (λ v. v.items ≡ replicate padding 0 ++ log_bytes wide cells.now) }
-{
-    let mut bytes = vec![in alloc; 0; padding as usize]?;
-    let log = write_log(alloc, cells, wide)?;
-    bytes.extend_from_slice(&log)?;
-    Ok(bytes)
 }
 
 // Writes the log, which has the most zeros before it that it may need, and its place, and syncs.

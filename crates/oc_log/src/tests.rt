@@ -4,8 +4,8 @@ ghost use Rattle.oc_layout.specs.Layout.{is_wide, write_len};
 
 mod quiet;
 
-use crate::{IoFault, LogFault, put_in, recover};
-use oc_host::{Fill, MemHost};
+use crate::{Draft, LogFault, put_in, recover};
+use oc_host::{Failed, Fill, MemHost};
 use oc_layout::{Cell, CellWrite, Header, read_cell};
 use quiet::Quiet;
 use std::alloc::{AllocError, Global};
@@ -69,10 +69,11 @@ fn run(
     header: &Header,
     place: u32,
     fail: u64,
-) -> Result<(Result<(), IoFault>, Quiet), AllocError> {
+) -> Result<(Result<(), Failed>, Quiet), AllocError> {
     let file = vec![in alloc; 7; 200]?;
     let mut host = Quiet::of(MemHost::new(alloc, file, vec![in alloc; fail]?)?);
-    let answer = put_in(alloc, &mut host, header, log_place(header, place), &WRITES);
+    let draft = Draft::of(alloc, header, WRITES.to_vec(alloc)?)?;
+    let answer = put_in(&mut host, header, log_place(header, place), draft);
     Ok((answer, host))
 }
 
@@ -189,7 +190,7 @@ fn each_stop_leaves_none_or_all(rt: HostRuntime) -> Result<(), Fail> {
 fn so_does_each_stop_of_a_run_that_fails(rt: HostRuntime) -> Result<(), Fail> {
     for fail in 1..=11 {
         let (answer, host) = run(rt.alloc(), &FORMAT_ONE, BEHIND, fail)?;
-        assert_eq!(rt; answer, Err(IoFault::Host), "{fail}");
+        assert_eq!(rt; answer, Err(Failed), "{fail}");
         assert_eq!(rt; host.memory.calls(), fail);
         let (tried, wrong) = stops(rt.alloc(), &FORMAT_ONE, BEHIND, fail)?;
         assert!(rt; tried >= 6 && wrong == 0, "{fail}");

@@ -1,9 +1,10 @@
 -- Things placed one after another.
-use Rattle.std.proofs.Common.{◌≡◌, ◌∙◌, ℕ, ◌+◌, ◌<◌, ◌≤◌, true, false, cond, leb, List, [], ◌∷◌, ◌++◌, length, take, drop, get_or, Some, None, ap, subst, inl, inr, refl, arith}
+use Rattle.std.proofs.Common.{◌≡◌, ◌∙◌, ℕ, suc, ◌+◌, ◌<◌, ◌≤◌, true, false, cond, leb, List, [], ◌∷◌, ◌++◌, length, map, take, drop, get_or, Some, None, ap, ap₂, sym, subst, subst₂, inl, inr, refl, arith}
 use Rattle.std.specs.List.{All}
 use Rattle.std.proofs.lemmas.Bool.{cases_lt}
 use Rattle.std.proofs.lemmas.Bool.Decides.{nat_tests}
-use Rattle.std.proofs.lemmas.List.{drop_more}
+use Rattle.std.proofs.lemmas.List.{drop_more, map-append}
+use Rattle.std.proofs.Math.Seq.{take-suc}
 use Rattle.std.proofs.lemmas.List.Sums.{fold_more, sum_by-append, sum_by-cons}
 use Rattle.std.proofs.lemmas.List.Elements.{All-append}
 use Rattle.std.specs.Prelude.{IsErrOf, Err}
@@ -14,7 +15,7 @@ use Rattle.oc_free.specs.FreeParts.{AreFree, free_at}
 use Rattle.oc_free.proofs.ByBlocks.{by_blocks, free_once}
 use Rattle.oc_free.proofs.Edits.{counted}
 use Rattle.oc_room.specs.declared.fault.RoomFault.TheVariants as room_fault
-use Rattle.oc_room.specs.Rooms.{Space, Placed, owns, owners, open_at, place_next, placed, finds_room, lacking, LiesIn, LiesApart}
+use Rattle.oc_room.specs.Rooms.{Space, Placed, owns, owners, open_at, place_next, placed, finds_room, lacking, IsSame, LiesIn, LiesApart, GoesBack}
 use Rattle.oc_room.proofs.Counting.{some_blocks}
 use Rattle.oc_room.proofs.Few.{few}
 
@@ -57,6 +58,13 @@ all_behind P cells c all one = All-append P cells (c ∷ []) all (λ k d lt. sub
   where
     zero_is : (k : ℕ) → k < length (c ∷ []) → 0 ≡ k
     zero_is k lt = omega (arith, lt)
+
+-- the lengths are those placed so far
+pub lens_behind : (lens : List ℕ) (i : ℕ) (cells : List Cell) (c : Cell) → i < length lens → map {B = ℕ} (λ c. c.len) cells ≡ take i lens → c.len ≡ get_or lens i 0 → map {B = ℕ} (λ c. c.len) (cells ++ c ∷ []) ≡ take (i + 1) lens
+lens_behind lens i cells c lt so_far len = map-append (λ c. c.len) cells (c ∷ []) ∙ ap₂ (λ a n. a ++ n ∷ []) so_far len ∙ sym (subst (λ n. take n lens ≡ take i lens ++ get_or lens i 0 ∷ []) suc_is (take-suc lens i 0 lt))
+  where
+    suc_is : suc i ≡ i + 1
+    suc_is = omega arith
 
 -- a thing that lies in a free part or at the end lies apart from the end of the file before
 pub lies_apart : (s : Space) (end : ℕ) (c : Cell) → 1 ≤ blocks s.unit c.len → end ≤ s.end → ((k : ℕ) → end ≤ k → free_at s.parts k ≡ 0) → LiesIn s c → LiesApart s.unit end c
@@ -108,6 +116,17 @@ module _ (s t : Space) (cells : List Cell) (opened : (k : ℕ) → open_at s k �
   pub few_cells : 0 < s.unit → All (λ c. 1 ≤ c.len) cells → length cells ≤ t.end
   few_cells pos some = few s.unit t.end pos cells some (begins pos some) apart
 
+  -- they can be given back
+  pub goes_back : s.end ≤ t.end → t.unit ≡ s.unit → All (λ c. 1 ≤ c.len) cells → All (LiesApart s.unit s.end) cells → ((k : ℕ) → s.end ≤ k → free_at t.parts k ≡ 0) → length cells ≤ t.spare → GoesBack t cells s.end
+  goes_back le unit some lies none spare = record {
+    some = some;
+    lies = subst (λ u. All (LiesApart u s.end) cells) (sym unit) lies;
+    apart = λ k lt. subst (λ u. free_at t.parts k + owners u cells k ≤ 1) (sym unit) (once_below le k lt);
+    within = none;
+    end = le;
+    spare = spare;
+  }
+
   -- given back, the parts are those of before
   pub as_before : s.end ≤ t.end → (parts : List Part) → AreFree parts → ((k : ℕ) → k < s.end → free_at parts k ≡ free_at t.parts k + owners s.unit cells k) → ((k : ℕ) → s.end ≤ k → free_at parts k ≡ 0) → parts ≡ s.parts
   as_before le parts frees below behind = by_blocks parts s.parts frees free same
@@ -117,6 +136,17 @@ module _ (s t : Space) (cells : List Cell) (opened : (k : ℕ) → open_at s k �
         | inl lt ↦ omega (arith, below k lt, apart_below le k lt)
         | inr ge ↦ omega (arith, behind k ge, within k ge)
       ]
+
+-- what goes back into a room goes back into the same one
+pub goes_back_too : (s t : Space) (things : List Cell) (to : ℕ) → IsSame s t → length things ≤ t.spare → GoesBack s things to → GoesBack t things to
+goes_back_too s t things to same spare back = record {
+  some = back.some;
+  lies = subst (λ u. All (LiesApart u to) things) (sym same.unit) back.lies;
+  apart = λ k lt. subst₂ (λ (ps : List Part) u. free_at ps k + owners u things k ≤ 1) (sym same.parts) (sym same.unit) (back.apart k lt);
+  within = λ k ge. subst (λ (ps : List Part). free_at ps k ≡ 0) (sym same.parts) (back.within k ge);
+  end = omega (arith, back.end, same.end);
+  spare = spare;
+}
 
 -- ---- the fault
 

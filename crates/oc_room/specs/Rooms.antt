@@ -1,10 +1,10 @@
 -- The room of a file: the blocks that things own, the free parts, the end of the file and its limit. Addresses and the room's numbers count
 -- blocks, the lengths of things bytes.
-use Rattle.std.specs.Prelude.{◌≡◌, ◌⊎◌, true, ◌<◌, ◌≤◌, ℕ, ◌+◌, ◌&&◌, ◌||◌, nat_le, Bool, if◌then◌else◌, List, [], ◌∷◌, ◌++◌, Option, Some, None, is_some, fold, count_by}
+use Rattle.std.specs.Prelude.{◌≡◌, ◌⊎◌, true, ◌<◌, ◌≤◌, ℕ, ◌+◌, ◌&&◌, ◌||◌, nat_le, Bool, if◌then◌else◌, List, [], ◌∷◌, ◌++◌, length, All, Option, Some, None, is_some, fold, count_by}
 use Rattle.oc_layout.specs.declared.cells.Cell.{Cell}
 use Rattle.oc_layout.specs.Layout.{blocks}
 use Rattle.oc_model.specs.Space.{Part, Shortage, best_fit, without}
-use Rattle.oc_free.specs.FreeParts.{has_block, free_at}
+use Rattle.oc_free.specs.FreeParts.{AreFree, has_block, free_at}
 
 -- the blocks that a thing owns
 abbrev pub part_of : ℕ → Cell → Part
@@ -26,6 +26,14 @@ pub record Space : Type 0 where
   pub end : ℕ
   pub limit : ℕ
   pub spare : ℕ
+
+-- What holds of every room: its free parts stand in order and within the file, and the file is no longer than its limit.
+pub record IsRoom (s : Space) : Type 0 where
+  pub free : AreFree s.parts
+  pub within : (k : ℕ) → s.end ≤ k → free_at s.parts k ≡ 0
+  pub unit : 0 < s.unit
+  pub end : s.end ≤ s.limit
+  pub limit : s.limit ≤ 2147483647
 
 -- the block k may be given out: it is free or lies behind the file, 1, or it isn't, 0
 abbrev pub open_at : Space → ℕ → ℕ
@@ -92,3 +100,13 @@ LiesIn s c = ((k : ℕ) → owns s.unit k c ≡ true → 1 ≤ free_at s.parts k
 -- the thing ends where the file ended or before, or begins there or behind
 abbrev pub LiesApart : ℕ → ℕ → Cell → Type 0
 LiesApart unit end c = (c.at + blocks unit c.len ≤ end) ⊎ (end ≤ c.at)
+
+-- The things can be given back, and the file can end at the block `to` again: none of them is empty or stands across `to`, no block before `to`
+-- is in two of them or in one and free, no free block lies behind it, and there is memory to give each of them back.
+pub record GoesBack (s : Space) (things : List Cell) (to : ℕ) : Type 0 where
+  pub some : All (λ thing. 1 ≤ thing.len) things
+  pub lies : All (LiesApart s.unit to) things
+  pub apart : (k : ℕ) → k < to → free_at s.parts k + owners s.unit things k ≤ 1
+  pub within : (k : ℕ) → to ≤ k → free_at s.parts k ≡ 0
+  pub end : to ≤ s.end
+  pub spare : length things ≤ s.spare

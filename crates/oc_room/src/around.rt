@@ -3,7 +3,7 @@ ghost use Rattle.std.specs.Prelude.{◌≡◌, ◌⊎◌, ◌≤◌, ◌<◌, �
 ghost use Rattle.std.specs.List.Sorted.{IsPermutation, IsNonDecreasingBy};
 ghost use Rattle.oc_layout.specs.Layout.{blocks};
 ghost use Rattle.oc_free.specs.FreeParts.{free_at};
-ghost use Rattle.oc_room.specs.Rooms.{Tiles, AreApart};
+ghost use Rattle.oc_room.specs.Rooms.{IsRoom, Tiles, AreApart};
 
 use crate::Room;
 use oc_layout::Cell;
@@ -29,6 +29,7 @@ impl Room {
         ensures unit { IfOk result (λ found. IfSome found (λ room. room.unit ≡ unit)) }
         ensures end { IfOk result (λ found. IfSome found (λ room. room.end ≡ end)) }
         ensures limit { IfOk result (λ found. IfSome found (λ room. room.limit ≡ limit)) }
+        ensures is_room { IfOk result (λ found. IfSome found (λ room. IsRoom room)) }
         ensures none { result ≡ Ok None → ¬ AreApart unit end things.items }
     {
         sort_by_address(&mut things);

@@ -1,7 +1,7 @@
-ghost use Rattle.std.specs.Prelude.{◌≡◌, ◌<◌, ◌≤◌, ◌+◌, ℕ, List, [], ◌∷◌, ◌++◌, is_some, length, true, Some, None, All, IfSome, IfNone, IfOk, OnOk, OnErr, IsErrOf, if◌then◌else◌, ◌&&◌, nat_le, nat_lt};
+ghost use Rattle.std.specs.Prelude.{◌≡◌, ◌<◌, ◌≤◌, ◌+◌, ℕ, List, [], ◌∷◌, ◌++◌, is_some, length, map, true, Some, None, All, IfSome, IfNone, IfOk, OnOk, OnErr, IsErrOf, if◌then◌else◌, ◌&&◌, nat_le, nat_lt};
 ghost use Rattle.oc_layout.specs.Layout.{blocks};
-ghost use Rattle.oc_free.specs.FreeParts.{AreFree, all_blocks, free_at};
-ghost use Rattle.oc_room.specs.Rooms.{owns, owners, open_at, unplaced, place_next, placed, finds_room, lacking, IsSame, LiesIn, LiesApart};
+ghost use Rattle.oc_free.specs.FreeParts.{all_blocks, free_at};
+ghost use Rattle.oc_room.specs.Rooms.{owns, owners, open_at, Space, unplaced, place_next, placed, finds_room, lacking, IsRoom, IsSame, LiesIn, LiesApart, GoesBack};
 ghost use Rattle.oc_room.specs.declared.fault.RoomFault.TheVariants as RoomFault;
 
 use crate::RoomFault;
@@ -25,21 +25,13 @@ pub struct Room {
 }
 
 impl Model for Room {
-    ghost use Rattle.std.specs.Prelude.{◌≡◌, ◌<◌, ◌≤◌, ℕ};
-    ghost use Rattle.oc_free.specs.FreeParts.{AreFree, free_at};
-    ghost use Rattle.oc_room.specs.Rooms.{Space};
+    ghost use Rattle.oc_room.specs.Rooms.{Space, IsRoom};
 
     ghost Value = { Space };
 
     ghost view = { λ r. record { unit = r.unit; parts = r.free.parts; end = r.end; limit = r.limit; spare = r.free.spare } };
 
-    ghost invariant = { λ r. record {
-      free : AreFree r.free.parts;
-      within : (k : ℕ) → r.end ≤ k → free_at r.free.parts k ≡ 0;
-      unit : 0 < r.unit;
-      end : r.end ≤ r.limit;
-      limit : r.limit ≤ 2147483647;
-    } };
+    ghost invariant = { λ r. IsRoom (record { unit = r.unit; parts = r.free.parts; end = r.end; limit = r.limit; spare = r.free.spare }) };
 }
 
 impl Room {
@@ -52,6 +44,7 @@ impl Room {
         ensures parts { result.parts ≡ [] }
         ensures end { result.end ≡ end }
         ensures limit { result.limit ≡ limit }
+        ensures is_room { IsRoom result }
     {
         Room {
             free: FreeSpace::new(alloc),
@@ -63,14 +56,16 @@ impl Room {
 
     /// The blocks of the file.
     pub fn end(&self) -> u32
-        ensures { result ≡ self.now.end }
+        ensures value { result ≡ self.now.end }
+        ensures is_room { IsRoom self.now }
     {
         self.end
     }
 
     /// The most blocks that the file may have.
     pub fn limit(&self) -> u32
-        ensures { result ≡ self.now.limit }
+        ensures value { result ≡ self.now.limit }
+        ensures is_room { IsRoom self.now }
     {
         self.limit
     }
@@ -87,6 +82,7 @@ impl Room {
         ensures room { OnOk result (n ≤ self.new.spare) }
         ensures same { IsSame self.old self.new }
         ensures spare { self.old.spare ≤ self.new.spare }
+        ensures is_room { IsRoom self.new }
     {
         self.free.reserve(n)?;
         Ok(())
@@ -102,8 +98,8 @@ impl Room {
         ensures unit { self.new.unit ≡ self.old.unit }
         ensures end { self.new.end ≡ self.old.end }
         ensures limit { self.new.limit ≡ self.old.limit }
-        ensures free { AreFree self.new.parts }
         ensures spare { self.old.spare ≤ self.new.spare + 1 }
+        ensures is_room { IsRoom self.new }
     {
         let blocks = self.blocks_of(thing.len);
         self.free.release(thing.at, blocks);
@@ -145,6 +141,10 @@ impl Room {
         ensures limit { self.new.limit ≡ self.old.limit }
         ensures others { others ≤ self.new.spare }
         ensures spare { IfOk result (λ cells. others + length cells.items ≤ self.new.spare) }
+        ensures lengths { IfOk result (λ cells. map (λ cell. cell.len) cells.items ≡ lengths.now) }
+        ensures back { IfOk result (λ cells. GoesBack self.new cells.items self.old.end) }
+        ensures was_room { IsRoom self.old }
+        ensures is_room { IsRoom self.new }
     {
         let most = lengths.len().min(self.limit as usize) as u32;
         self.reserve(others + most)?;
@@ -159,6 +159,29 @@ impl Room {
             let _room = cells.push(cell);
         }
         Ok(cells)
+    }
+
+    /// Makes the blocks of these things free, and ends the file here again. It takes no memory.
+    ///
+    /// What `place` has given can be taken back: then the room is as it was before.
+    pub fn take_back(&mut self, cells: &[Cell], end: u32)
+        requires { GoesBack self.old cells.now end }
+        ensures below { (k : ℕ) → k < end → free_at self.new.parts k ≡ free_at self.old.parts k + owners self.old.unit cells.now k }
+        ensures behind { (k : ℕ) → end ≤ k → free_at self.new.parts k ≡ 0 }
+        ensures end { self.new.end ≡ end }
+        ensures unit { self.new.unit ≡ self.old.unit }
+        ensures limit { self.new.limit ≡ self.old.limit }
+        ensures spare { self.old.spare ≤ self.new.spare + length cells.now }
+        ensures is_room { IsRoom self.new }
+        ensures same { (before : Space) → IsRoom before → before.unit ≡ self.old.unit → before.limit ≡ self.old.limit → before.end ≡ end →
+            ((k : ℕ) → open_at before k ≡ open_at self.old k + owners before.unit cells.now k) → IsSame before self.new }
+    {
+        for cell in cells {
+            if cell.at < end {
+                self.release(*cell);
+            }
+        }
+        self.end = end;
     }
 
     // Makes the blocks from the end of the file up to this one free, and ends there.
@@ -202,30 +225,6 @@ impl Room {
         }
     }
 
-    // Gives back what was placed since the file ended here.
-    fn take_back(&mut self, cells: &[Cell], end: u32)
-        requires spare { length cells.now ≤ self.old.spare }
-        requires some { All (λ cell. 1 ≤ cell.len) cells.now }
-        requires lies { All (LiesApart self.old.unit end) cells.now }
-        requires end { end ≤ self.old.end }
-        requires within { (k : ℕ) → end ≤ k → free_at self.old.parts k ≡ 0 }
-        requires apart { (k : ℕ) → k < end → free_at self.old.parts k + owners self.old.unit cells.now k ≤ 1 }
-        ensures below { (k : ℕ) → k < end → free_at self.new.parts k ≡ free_at self.old.parts k + owners self.old.unit cells.now k }
-        ensures behind { (k : ℕ) → end ≤ k → free_at self.new.parts k ≡ 0 }
-        ensures end { self.new.end ≡ end }
-        ensures free { AreFree self.new.parts }
-        ensures unit { self.new.unit ≡ self.old.unit }
-        ensures limit { self.new.limit ≡ self.old.limit }
-        ensures spare { self.old.spare ≤ self.new.spare + length cells.now }
-    {
-        for cell in cells {
-            if cell.at < end {
-                self.release(*cell);
-            }
-        }
-        self.end = end;
-    }
-
     // Places so many bytes, if they find room.
     fn place_one(&mut self, len: u64) -> Option<Cell>
         requires { 1 ≤ len }
@@ -244,6 +243,7 @@ impl Room {
         ensures unit { self.new.unit ≡ self.old.unit }
         ensures limit { self.new.limit ≡ self.old.limit }
         ensures spare { self.old.spare ≤ self.new.spare }
+        ensures is_room { IfSome result (λ _. IsRoom self.new) }
     {
         if len > MOST_BYTES {
             return None;
@@ -267,6 +267,7 @@ impl Room {
         ensures limit { self.new.limit ≡ self.old.limit }
         ensures spare { self.old.spare ≡ self.new.spare }
         ensures same { IfNone result (self.new ≡ self.old) }
+        ensures is_room { IfSome result (λ _. IsRoom self.new) }
     {
         if need > self.limit - self.end {
             return None;

@@ -51,6 +51,46 @@ fn an_old_log_is_used_again(rt: HostRuntime) -> Result<(), Fail> {
     Ok(())
 }
 
+// Places four things and takes them back.
+fn place_for_a_while(room: &mut Room, alloc: Global) -> Result<[Cell; 4], RoomFault> {
+    let end = room.end();
+    let placed = room.place(alloc, &[20, 10, 6, 1], 0)?;
+    let cells = [placed[0], placed[1], placed[2], placed[3]];
+    room.take_back(&placed, end);
+    Ok(cells)
+}
+
+#[test]
+fn what_was_placed_is_taken_back(rt: HostRuntime) -> Result<(), Fail> {
+    let alloc = rt.alloc();
+    let mut room = after_a_commit(alloc)?.expect(&rt, "things apart");
+    for _ in 0..3 {
+        let placed = place_for_a_while(&mut room, alloc)?;
+        let wanted = [cell(1188, 20), cell(1172, 10), cell(1182, 6), cell(1208, 1)];
+        assert_eq!(rt; placed, wanted);
+        assert_eq!(rt; (room.end(), room.total()), (1188, 16));
+    }
+    Ok(())
+}
+
+#[test]
+fn the_last_placed_is_taken_back_first(rt: HostRuntime) -> Result<(), Fail> {
+    let alloc = rt.alloc();
+    let mut room = Room::new(alloc, 16, 8, 128);
+    let slots = room.place(alloc, &[40, 1], 0)?;
+    let end = room.end();
+    let pages = room.place(alloc, &[1024], 2)?;
+    assert_eq!(rt;
+        (slots[0], slots[1], pages[0]),
+        (cell(8, 40), cell(11, 1), cell(12, 1024))
+    );
+    room.take_back(&pages, end);
+    room.take_back(&slots, 8);
+    assert_eq!(rt; (room.end(), room.total()), (8, 0));
+    assert_eq!(rt; place_one(&mut room, alloc)?, cell(8, 1));
+    Ok(())
+}
+
 #[test]
 fn what_finds_no_room_is_told_and_changes_nothing(rt: HostRuntime) -> Result<(), Fail> {
     let alloc = rt.alloc();

@@ -1,17 +1,24 @@
-use Rattle.std.proofs.Common.{◌≡◌, ◌∙◌, List, subst}
+use Rattle.std.proofs.Common.{◌≡◌, ◌∙◌, List, sym, subst}
 use Rattle.oc_layout.specs.declared.cells.CellWrite.{CellWrite}
 use Rattle.oc_layout.specs.declared.cells.Header.{Header}
 use Rattle.oc_host.specs.Disk.{LeavesOnly}
 use Rattle.oc_log.specs.Log.{with_log, put_cells}
+use Rattle.oc_log.specs.States.{IsOpened}
 use Rattle.oc_log.specs.Stops.{HasAll, NoneOrAll}
 use Rattle.oc_log.proofs.FourCalls.{run_opened, run_applied, run_closed}
 use Rattle.oc_log.proofs.whole.put_in.Goals as goal
+
+pub apply-requires : goal.apply-requires
+apply-requires g c told =
+    let same = c.in_ok-opened.ensures.same in
+    let e = g.H.Host.disk c.open_gate.new.host in
+    subst (λ (x : Header). IsOpened x c.in_ok-opened.opened.cells.writes.items e) (sym same.0) (subst (λ (x : List CellWrite). IsOpened c.in_ok-prepared.prepared.header x e) (sym same.1) (c.in_ok-opened.ensures.ok told))
 
 pub returns-in_err-opened-clause-any_moment : goal.returns-in_err-opened-clause-any_moment
 returns-in_err-opened-clause-any_moment g c told =
     let d = g.H.Host.disk c.args.host.now in
     let h = with_log c.args.header.now c.args.place in
-    let ws = c.args.cells.now in
+    let ws = c.args.draft.writes in
     let may = c.requires.may told in
     let sound = g.met.H.Host.sound c.args.host.now told in
     let e = g.H.Host.disk c.prepare.new.host in
@@ -28,7 +35,7 @@ pub returns-in_err-applied-clause-any_moment : goal.returns-in_err-applied-claus
 returns-in_err-applied-clause-any_moment g c told =
     let d = g.H.Host.disk c.args.host.now in
     let h = with_log c.args.header.now c.args.place in
-    let ws = c.args.cells.now in
+    let ws = c.args.draft.writes in
     let may = c.requires.may told in
     let sound = g.met.H.Host.sound c.args.host.now told in
     let e = g.H.Host.disk c.prepare.new.host in
@@ -52,7 +59,7 @@ pub returns-in_err-close_gate-clause-any_moment : goal.returns-in_err-close_gate
 returns-in_err-close_gate-clause-any_moment g c told =
     let d = g.H.Host.disk c.args.host.now in
     let h = with_log c.args.header.now c.args.place in
-    let ws = c.args.cells.now in
+    let ws = c.args.draft.writes in
     let may = c.requires.may told in
     let sound = g.met.H.Host.sound c.args.host.now told in
     let e = g.H.Host.disk c.prepare.new.host in
@@ -81,7 +88,7 @@ pub returns-clause-any_moment : goal.returns-clause-any_moment
 returns-clause-any_moment g c told =
     let d = g.H.Host.disk c.args.host.now in
     let h = with_log c.args.header.now c.args.place in
-    let ws = c.args.cells.now in
+    let ws = c.args.draft.writes in
     let may = c.requires.may told in
     let sound = g.met.H.Host.sound c.args.host.now told in
     let e = g.H.Host.disk c.prepare.new.host in

@@ -1,18 +1,18 @@
-use Rattle.std.proofs.Common.{◌≡◌, ◌∙◌, ◌<◌, ◌≤◌, ◌+◌, ◌++◌, ◌∷◌, [], ℕ, true, false, is_ok, List, Some, length, get_or, cond, ap, ap₂, sym, subst, subst₂, refl, arith}
+use Rattle.std.proofs.Common.{◌≡◌, ◌∙◌, ◌<◌, ◌≤◌, ◌+◌, ◌++◌, ◌∷◌, [], ℕ, true, false, is_ok, Some, length, get_or, cond, ap, ap₂, sym, subst, subst₂, refl, arith}
 use Rattle.std.proofs.lemmas.List.{drop_all}
-use Rattle.oc_layout.specs.declared.cells.Cell.{Cell}
 use Rattle.oc_layout.specs.Layout.{blocks}
 use Rattle.oc_free.specs.FreeParts.{AreFree, free_at}
-use Rattle.oc_room.specs.Rooms.{Space, Placed, owns, owners, open_at, unplaced, place_next, finds_room, lacking, LiesApart}
+use Rattle.oc_room.specs.Rooms.{Space, Placed, owns, open_at, unplaced, place_next, finds_room, lacking, IsRoom, LiesApart, GoesBack}
 use Rattle.oc_room.specs.declared.fault.RoomFault.TheVariants as RoomFault
 use Rattle.oc_room.proofs.Counting.{some_blocks}
-use Rattle.oc_room.proofs.Placed.{placed_more, lacking_more, lacking_here, lacking_end, full_parts, same_error, owners_behind, all_behind, lies_apart, once_below, few_cells, as_before}
+use Rattle.oc_room.proofs.Placed.{placed_more, lacking_more, lacking_here, lacking_end, full_parts, same_error, owners_behind, all_behind, lies_apart, lens_behind, goes_back, few_cells}
 use Rattle.oc_room.proofs.room.Room.place.Goals as goal
 
 pub loop-len-init : goal.loop-len-init
 loop-len-init c =
     let none : c.in_ok-cells.cells.items ≡ [] = c.in_ok-cells.ensures.items in
     let same = c.reserve.ensures.same in
+    let room : IsRoom c.args.self.now = subst IsRoom c.self.view_is c.self.invariant in
     rw (none, same.parts, same.end) (record {
       placed = refl;
       rest = refl;
@@ -23,9 +23,11 @@ loop-len-init c =
       within = omega (arith, c.self.invariant.end, ap (λ (v : Space). v.end) c.self.view_is, ap (λ (v : Space). v.limit) c.self.view_is);
       behind = λ k le. subst (λ (v : Space). free_at v.parts k ≡ 0) c.self.view_is (c.self.invariant.within k (omega (arith, le, ap (λ (v : Space). v.end) c.self.view_is)));
       some = λ k d lt. absurd (omega (arith, lt));
+      lens = refl;
       lies = λ k d lt. absurd (omega (arith, lt));
       counted = refl;
       room = grind (arith, c.in_ok-reserve.ensures.room, c.min-most.ensures);
+      is_room = record { free = room.free; within = room.within; unit = c.reserve.ensures.is_room.unit; end = omega (arith, room.end, same.limit); limit = c.reserve.ensures.is_room.limit };
       capacity = grind (arith, c.in_ok-cells.ensures.capacity);
     })
 
@@ -45,18 +47,12 @@ module _ (c : goal.After-deref) where
   few : length c.loop-len.cells.items ≤ c.loop-len.self.end
   few = few_cells c.args.self.now c.loop-len.self c.loop-len.cells.items c.loop-len.invariant.opened free within unit c.loop-len.invariant.some
 
-pub take_back-requires-clause-spare : goal.take_back-requires-clause-spare
-take_back-requires-clause-spare c =
-    let count : length c.deref.result.now ≡ length c.loop-len.cells.items = ap length c.deref.ensures.value in
-    let spare : c.loop-len.self.spare ≡ c.place_one.new.self.spare = sym (ap (λ (v : Space). v.spare) c.in_default.ensures.same) in
-    grind (arith, count, spare, few c, c.loop-len.invariant.room, c.loop-len.invariant.counted, c.loop-len.invariant.within, c.loop-len-test.true)
-
-pub take_back-requires-clause-within : goal.take_back-requires-clause-within
-take_back-requires-clause-within c k le = rw c.in_default.ensures.same (c.loop-len.invariant.behind k (omega (arith, le, end c)))
-
-pub take_back-requires-clause-apart : goal.take_back-requires-clause-apart
-take_back-requires-clause-apart c k lt = rw (c.in_default.ensures.same, c.deref.ensures.value, c.loop-len.invariant.unit)
-    (once_below c.args.self.now c.loop-len.self c.loop-len.cells.items c.loop-len.invariant.opened (free c) (within c) c.loop-len.invariant.end k (omega (arith, lt, end c)))
+pub take_back-requires : goal.take_back-requires
+take_back-requires c =
+    let cells = c.loop-len.cells.items in
+    let spare : length cells ≤ c.loop-len.self.spare = grind (arith, few c, c.loop-len.invariant.room, c.loop-len.invariant.counted, c.loop-len.invariant.within, c.loop-len-test.true) in
+    let back : GoesBack c.loop-len.self cells c.args.self.now.end = goes_back c.args.self.now c.loop-len.self cells c.loop-len.invariant.opened (free c) (within c) c.loop-len.invariant.end c.loop-len.invariant.unit c.loop-len.invariant.some c.loop-len.invariant.lies c.loop-len.invariant.behind spare in
+    rw (c.in_default.ensures.same, c.deref.ensures.value, end c) back
 
 -- what the loop has placed finds no more room
 pub returns-in_default-clause-full : goal.returns-in_default-clause-full
@@ -79,21 +75,17 @@ module _ (c : goal.After-drop-cells) where
   within_then : (k : ℕ) → c.args.self.now.end ≤ k → free_at c.args.self.now.parts k ≡ 0
   within_then k le = subst (λ (v : Space). free_at v.parts k ≡ 0) c.self.view_is (c.self.invariant.within k (omega (arith, le, ap (λ (v : Space). v.end) c.self.view_is)))
 
-  end_then : c.self-2.inside.end ≡ c.args.self.now.end
-  end_then = ap (λ (v : Space). v.end) c.self-2.view_is ∙ c.reserve.ensures.same.end
-
-  below : (k : ℕ) → k < c.args.self.now.end → free_at c.take_back.new.self.parts k ≡ free_at c.loop-len.self.parts k + owners c.args.self.now.unit c.loop-len.cells.items k
-  below k lt = subst₂ (λ (v : Space) (l : List Cell). free_at c.take_back.new.self.parts k ≡ free_at v.parts k + owners v.unit l k) c.in_default.ensures.same c.deref.ensures.value (c.take_back.ensures.below k (omega (arith, lt, end_then)))
-      ∙ ap (λ u. free_at c.loop-len.self.parts k + owners u c.loop-len.cells.items k) c.loop-len.invariant.unit
+  unit_then : 0 < c.args.self.now.unit
+  unit_then = subst (λ (v : Space). 0 < v.unit) c.self.view_is c.self.invariant.unit
 
 pub returns-in_default-clause-fault : goal.returns-in_default-clause-fault
-returns-in_default-clause-fault c = record {
-  unit = c.take_back.ensures.unit ∙ ap (λ (v : Space). v.unit) c.in_default.ensures.same ∙ c.loop-len.invariant.unit;
-  parts = as_before c.args.self.now c.loop-len.self c.loop-len.cells.items c.loop-len.invariant.opened (free_then c) (within_then c) c.loop-len.invariant.end c.take_back.new.self.parts c.take_back.ensures.free
-      (below c) (λ k le. c.take_back.ensures.behind k (omega (arith, le, end_then c)));
-  end = c.take_back.ensures.end ∙ end_then c;
-  limit = c.take_back.ensures.limit ∙ ap (λ (v : Space). v.limit) c.in_default.ensures.same ∙ c.loop-len.invariant.limit;
-}
+returns-in_default-clause-fault c =
+    let same = c.in_default.ensures.same in
+    c.take_back.ensures.same c.args.self.now (subst IsRoom c.self.view_is c.self.invariant)
+    (sym (ap (λ (v : Space). v.unit) same ∙ c.loop-len.invariant.unit))
+    (sym (ap (λ (v : Space). v.limit) same ∙ c.loop-len.invariant.limit))
+    (sym (ap (λ (v : Space). v.end) c.self-2.view_is ∙ c.reserve.ensures.same.end))
+    (λ k. rw (same, c.deref.ensures.value) (c.loop-len.invariant.opened k))
 
 pub returns-in_default-clause-others : goal.returns-in_default-clause-others
 returns-in_default-clause-others c =
@@ -131,9 +123,11 @@ loop-len-preserved c =
       within = omega (arith, c.in-Some.ensures.within, c.place_one.ensures.limit, c.loop-len.invariant.limit);
       behind = λ k le. omega (arith, c.place_one.ensures.fewer k, c.loop-len.invariant.behind k le);
       some = all_behind (λ c. 1 ≤ c.len) c.loop-len.cells.items c.in-Some.cell c.loop-len.invariant.some some;
+      lens = lens_behind c.args.lengths.now i c.loop-len.cells.items c.in-Some.cell c.loop-len-test.true c.loop-len.invariant.lens c.in-Some.ensures.len;
       lies = all_behind (LiesApart s.unit s.end) c.loop-len.cells.items c.in-Some.cell c.loop-len.invariant.lies lies;
       counted = grind (arith, c.loop-len.invariant.counted);
       room = omega (arith, c.place_one.ensures.spare, c.loop-len.invariant.room);
+      is_room = c.in-Some.ensures.is_room;
       capacity = grind (arith, c.push-room.ensures.capacity, c.loop-len.invariant.capacity);
     })
 
@@ -147,3 +141,9 @@ returns-clause-spare c =
     (λ k le. subst (λ (v : Space). free_at v.parts k ≡ 0) c.self.view_is (c.self.invariant.within k (omega (arith, le, ap (λ (v : Space). v.end) c.self.view_is))))
     (subst (λ (v : Space). 0 < v.unit) c.self.view_is c.self.invariant.unit) c.loop-len.invariant.some in
     grind (arith, few, c.loop-len.invariant.room, c.loop-len.invariant.counted, c.loop-len.invariant.within, c.loop-len.auto.len-index-end)
+
+pub returns-clause-back : goal.returns-clause-back
+returns-clause-back c =
+    let room : IsRoom c.args.self.now = subst IsRoom c.self.view_is c.self.invariant in
+    goes_back c.args.self.now c.loop-len.self c.loop-len.cells.items c.loop-len.invariant.opened room.free room.within c.loop-len.invariant.end c.loop-len.invariant.unit c.loop-len.invariant.some c.loop-len.invariant.lies c.loop-len.invariant.behind
+    (omega (arith, returns-clause-spare c))

@@ -74,3 +74,6 @@ returns-clause-next c = rw (← c.self.view_is)
 
 pub returns-in-Some-clause-fewer : goal.returns-in-Some-clause-fewer
 returns-in-Some-clause-fewer c k = subst (λ (v : Space). free_at c.take.new.self.parts k ≤ free_at v.parts k) c.self.view_is (omega (arith, c.in-Some.ensures.blocks k))
+
+pub returns-in-Some-clause-is_room : goal.returns-in-Some-clause-is_room
+returns-in-Some-clause-is_room c = invariant_of-self c

@@ -18,3 +18,6 @@ invariant_of-self c = record {
   end = c.self.invariant.end;
   limit = c.self.invariant.limit;
 }
+
+pub returns-clause-is_room : goal.returns-clause-is_room
+returns-clause-is_room c = invariant_of-self c

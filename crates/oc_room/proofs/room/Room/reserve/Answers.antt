@@ -17,3 +17,9 @@ invariant_of-self-2 c = record {
   end = c.self.invariant.end;
   limit = c.self.invariant.limit;
 }
+
+pub returns-in_err-reserve-clause-is_room : goal.returns-in_err-reserve-clause-is_room
+returns-in_err-reserve-clause-is_room c = invariant_of-self c
+
+pub returns-clause-is_room : goal.returns-clause-is_room
+returns-clause-is_room c = invariant_of-self-2 c

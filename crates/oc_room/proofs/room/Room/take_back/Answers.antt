@@ -3,6 +3,7 @@ use Rattle.std.proofs.lemmas.List.{take_all}
 use Rattle.oc_free.specs.FreeParts.{free_at}
 use Rattle.oc_room.specs.Rooms.{Space, owns, owners}
 use Rattle.oc_room.proofs.Counting.{no_cell, still_taken, given_below, given_behind, skipped_below}
+use Rattle.oc_room.proofs.Placed.{as_before}
 use Rattle.oc_room.proofs.room.Room.take_back.Goals as goal
 use Rattle.oc_room.proofs.room.Room.take_back.Goals.{then-cell-end, else-cell-end}
 
@@ -66,3 +67,19 @@ returns-clause-below c k lt =
 
 pub returns-clause-behind : goal.returns-clause-behind
 returns-clause-behind c = behind c
+
+pub returns-clause-same : goal.returns-clause-same
+returns-clause-same c before is unit limit end opened =
+    let cells = c.args.cells.now in
+    let le : before.end ≤ c.args.self.now.end = omega (arith, end, c.requires.end) in
+    record {
+      unit = ap (λ (v : Space). v.unit) c.self.view_is ∙ c.loop-cell.invariant.unit ∙ sym unit;
+      parts = as_before before c.args.self.now cells opened is.free is.within le c.self.inside.free.parts c.self.invariant.free
+          (λ k lt. returns-clause-below c k (omega (arith, lt, end)) ∙ ap (λ u. free_at c.args.self.now.parts k + owners u cells k) (sym unit))
+          (λ k ge. behind c k (omega (arith, ge, end)));
+      end = sym end;
+      limit = ap (λ (v : Space). v.limit) c.self.view_is ∙ c.loop-cell.invariant.limit ∙ sym limit;
+    }
+
+pub returns-clause-is_room : goal.returns-clause-is_room
+returns-clause-is_room c = invariant_of-self c
