@@ -1,16 +1,15 @@
 -- The cells of a page in its bytes.
-use Rattle.std.proofs.Common.{◌≡◌, ℕ, zero, suc, ◌+◌, ◌-◌, ◌*◌, ◌<◌, ◌≤◌, List, [], ◌∷◌, ◌++◌, length, drop, take, get_or, set, refl, sym, ◌∙◌, ap, subst, arith, append_assoc, append-nil, length-append, length-take, length-drop}
-use Rattle.std.specs.Prelude.{All, flat_map}
+use Rattle.std.proofs.Common.{◌≡◌, ℕ, suc, ◌+◌, ◌-◌, ◌*◌, ◌<◌, ◌≤◌, List, [], ◌∷◌, ◌++◌, length, drop, take, get_or, set, sym, ◌∙◌, ap, arith, append_assoc, append-nil, length-append, length-take}
+use Rattle.std.specs.Prelude.{flat_map}
 use Rattle.std.specs.Int.{w32, to_be_bytes}
 use Rattle.std.proofs.lemmas.Grind.{flat_map-append}
 use Rattle.std.proofs.lemmas.List.{take_more_set, take_more, take_all, take-append-le}
-use Rattle.std.proofs.lemmas.List.Elements.{All-more}
 use Rattle.oc_host.specs.Disk.{over}
 use Rattle.oc_layout.specs.declared.cells.Cell.{Cell}
-use Rattle.oc_layout.specs.Layout.{cell_bytes, first_cell, FitsCell}
+use Rattle.oc_layout.specs.Layout.{cell_bytes, first_cell}
 use Rattle.oc_pages.specs.declared.page.Page.{Page}
 use Rattle.oc_pages.specs.Pages.{space_number, no_cell}
-use Rattle.oc_pages.specs.Chains.{cells_from, page_bytes, FitsPage, SpellsPage}
+use Rattle.oc_pages.specs.Chains.{cells_from, page_bytes}
 
 -- the first of some cells
 pub cells_step : (n m : ℕ) (b : List ℕ) → n ≡ suc m → cells_from n b ≡ first_cell b ∷ cells_from m (drop 8 b)

@@ -1,21 +1,21 @@
 -- What holds of the chain of an image.
-use Rattle.std.proofs.Common.{◌≡◌, ◌⊎◌, inl, inr, ⊎_elim, ℕ, zero, suc, ◌+◌, ◌-◌, ◌*◌, ◌<◌, ◌≤◌, Bool, true, false, List, [], ◌∷◌, length, get_or, set, refl, sym, ◌∙◌, ap, subst, arith, Option, Some, None}
-use Rattle.std.specs.Prelude.{All, AllPairs, Contains, find, map, option_map}
+use Rattle.std.proofs.Common.{◌≡◌, inl, inr, ℕ, zero, suc, ◌+◌, ◌*◌, ◌<◌, ◌≤◌, true, false, List, [], ◌∷◌, length, get_or, refl, sym, ◌∙◌, ap, subst, arith, Option, Some, None}
+use Rattle.std.specs.Prelude.{All, AllPairs, Contains, option_map}
 use Rattle.std.proofs.lemmas.Bool.{cases_Bool}
 use Rattle.std.proofs.lemmas.Bool.Decides.{nat_tests}
-use Rattle.std.proofs.lemmas.List.{get_or_default}
 use Rattle.std.proofs.lemmas.List.Elements.{All-nil, All-cons, All-head, All-tail}
 use Rattle.oc_host.specs.Disk.{over}
 use Rattle.oc_layout.specs.declared.cells.Cell.{Cell}
 use Rattle.oc_layout.specs.declared.cells.Space.{Space}
 use Rattle.oc_layout.specs.Layout.{cell_bytes, FitsCell}
+use Rattle.oc_log.proofs.Bytes.{length-over-in, over_out}
 use Rattle.oc_pages.specs.declared.page.Page.{Page}
-use Rattle.oc_pages.specs.Pages.{is_page, has_number, holds, slot_in, page_holding, target_of, place_of, with_cell, with_pointer, IsOther}
+use Rattle.oc_pages.specs.Pages.{is_page, holds, slot_in, page_holding, target_of, place_of, with_cell, with_pointer, IsOther}
 use Rattle.oc_pages.specs.Places.{no_page, page_in}
 use Rattle.oc_pages.specs.Chains.{StandsAt, ReadsAs, SpellsPage, Leads, Chain, AreApart, IsKept, page_at}
 use Rattle.oc_pages.proofs.Chained.{map_same}
 use Rattle.oc_pages.proofs.Changes.{with_held, with_other}
-use Rattle.oc_pages.proofs.Images.{page_again, page_kept, page_written, length-over, over_out, length-cells}
+use Rattle.oc_pages.proofs.Images.{page_again, page_kept, page_written, length-cells}
 use Rattle.oc_pages.proofs.Listings.{found_is}
 use Rattle.oc_pages.proofs.Ranges.{within_is}
 -- an image has one chain from a root cell
@@ -57,7 +57,7 @@ cell_keeps : (unit : ℕ) (image : List ℕ) (p q : Page) (slot : ℕ) (cell : C
 cell_keeps unit image p q slot cell lt in_q in_p apart =
     let target = q.at * unit + 16 + 8 * slot in
     record {
-      inside = omega (arith, in_p, length-over target (cell_bytes cell) image (omega (arith, in_q, lt)));
+      inside = omega (arith, in_p, length-over-in target (cell_bytes cell) image (omega (arith, in_q, lt)));
       same = λ k from to. over_out target (cell_bytes cell) image k (omega (arith, in_q, lt)) (elim apart [
         | inl before ↦ inl (omega (arith, before, to))
         | inr after ↦ inr (omega (arith, after, from, lt))
@@ -135,7 +135,7 @@ leads_set unit image space number cell root (p ∷ ps) next q fits leads distinc
         subst (λ (x : Page). StandsAt unit other root x × Leads unit other x.link (with_pointer space number cell ps) next) (sym (with_held space number cell p yes_)) (
           record {
             place = leads.0.place;
-            inside = omega (arith, leads.0.inside, length-over (p.at * unit + 16 + 8 * slot) (cell_bytes cell) image (omega (arith, leads.0.inside, few)));
+            inside = omega (arith, leads.0.inside, length-over-in (p.at * unit + 16 + 8 * slot) (cell_bytes cell) image (omega (arith, leads.0.inside, few)));
             reads = page_written unit image p slot cell leads.0.reads leads.0.inside few fits;
           },
           subst (λ (l : List Page). Leads unit other p.link l next) (sym rest) (leads_same unit image other p.link ps next leads.1 kept),

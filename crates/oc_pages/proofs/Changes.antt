@@ -1,14 +1,13 @@
 -- Pages that are added, and cells that are changed.
-use Rattle.std.proofs.Common.{◌≡◌, ◌≢◌, ◌⊎◌, inl, inr, ℕ, zero, suc, ◌+◌, ◌-◌, ◌*◌, ◌<◌, ◌≤◌, ◌^◌, Bool, true, false, List, [], ◌∷◌, ◌++◌, map, replicate, length, get_or, set, refl, sym, ◌∙◌, ap, subst, arith, length-append}
+use Rattle.std.proofs.Common.{◌≡◌, inl, inr, ℕ, zero, suc, ◌-◌, ◌*◌, ◌<◌, ◌^◌, true, false, List, [], ◌∷◌, ◌++◌, map, replicate, length, get_or, set, refl, sym, ◌∙◌, ap, subst, arith, length-append}
 use Rattle.std.specs.Prelude.{All, AllPairs}
-use Rattle.std.proofs.lemmas.Bool.{cases_lt, cases_Bool, cases_eq}
-use Rattle.std.proofs.lemmas.Bool.Decides.{nat_tests}
-use Rattle.std.proofs.lemmas.List.{get_or-replicate, get_or-set_same, get_or-set_other, length-set}
+use Rattle.std.proofs.lemmas.Bool.{cases_Bool, cases_eq}
+use Rattle.std.proofs.lemmas.List.{get_or-set_other, length-set}
 use Rattle.std.proofs.lemmas.List.Elements.{All-push, All-set}
 use Rattle.oc_layout.specs.declared.cells.Cell.{Cell}
 use Rattle.oc_layout.specs.declared.cells.Space.{Space}
 use Rattle.oc_pages.specs.declared.page.Page.{Page}
-use Rattle.oc_pages.specs.Pages.{no_cell, is_empty, has_number, holds, slot_in, cell_in, empty_page, place_of, first_of, with_cell, with_pointer, IsInRange, IsOther}
+use Rattle.oc_pages.specs.Pages.{no_cell, is_empty, has_number, holds, slot_in, empty_page, place_of, first_of, with_cell, with_pointer, IsInRange, IsOther}
 use Rattle.oc_pages.specs.Places.{no_page, page_in, chained, IsNamed, IsOrdered}
 use Rattle.oc_pages.proofs.Chained.{chained_more, chained_map, chained_all, set_is_map, holder_once}
 use Rattle.oc_pages.proofs.Ranges.{within_is}

@@ -1,9 +1,9 @@
 -- The bytes of a page in an image that changes.
-use Rattle.std.proofs.Common.{◌≡◌, ◌⊎◌, inl, inr, ⊎_elim, ℕ, zero, suc, ◌+◌, ◌-◌, ◌*◌, ◌<◌, ◌≤◌, ◌^◌, List, [], ◌∷◌, ◌++◌, length, take, drop, get_or, set, refl, sym, ◌∙◌, ap, subst, arith, append_assoc, append-nil, length-append, length-drop, length-take}
+use Rattle.std.proofs.Common.{◌≡◌, ◌⊎◌, inl, inr, ⊎_elim, ℕ, zero, suc, ◌+◌, ◌-◌, ◌*◌, ◌<◌, ◌≤◌, ◌^◌, List, [], ◌∷◌, ◌++◌, length, drop, get_or, set, refl, sym, ◌∙◌, ap, subst, arith, append-nil}
 use Rattle.std.specs.Prelude.{All, flat_map}
 use Rattle.std.specs.Int.{w32, to_be_bytes, from_be_bytes}
 use Rattle.std.proofs.lemmas.Bool.{cases_lt, cases_eq}
-use Rattle.std.proofs.lemmas.List.{get_or-take, get_or-drop, get_or_append_left, get_or-append_right, get_or-set_same, get_or-set_other, length-set, ext_get_or}
+use Rattle.std.proofs.lemmas.List.{get_or-drop, get_or-set_same, get_or-set_other, length-set, ext_get_or}
 use Rattle.std.proofs.lemmas.List.Elements.{All-head, All-tail}
 use Rattle.oc_host.specs.Disk.{over}
 use Rattle.oc_layout.specs.declared.cells.Cell.{Cell}
@@ -11,10 +11,11 @@ use Rattle.oc_layout.specs.declared.cells.Space.{Space}
 use Rattle.oc_layout.specs.declared.cells.Space.TheVariants.{Objects, System}
 use Rattle.oc_layout.specs.Layout.{cell_bytes, first_cell, FitsCell}
 use Rattle.oc_layout.proofs.Spelled.{number_again, cell_again}
+use Rattle.oc_log.proofs.Bytes.{over_out, over_in, slice_same}
 use Rattle.oc_pages.specs.declared.page.Page.{Page}
 use Rattle.oc_pages.specs.Pages.{no_cell, space_number}
-use Rattle.oc_pages.specs.Chains.{cells_from, page_bytes, page_at, ReadsAs, FitsPage, SpellsPage, IsKept}
-use Rattle.oc_pages.proofs.Bytes.{cells_step, take-over}
+use Rattle.oc_pages.specs.Chains.{cells_from, page_at, ReadsAs, SpellsPage, IsKept}
+use Rattle.oc_pages.proofs.LaidCells.{byte_of}
 
 -- ---- a page that is spelled is read again
 
@@ -40,39 +41,7 @@ page_again p b spells = subst (ReadsAs p) (sym spells.bytes) (record {
 -- ---- a page whose bytes stay
 
 pub page_kept : (unit : ℕ) (image other : List ℕ) (p : Page) → p.at * unit + 1024 ≤ length image → IsKept unit image other p → page_at unit other p.at ≡ page_at unit image p.at
-page_kept unit image other p inside kept =
-    let at = p.at * unit in
-    ext_get_or 0 (take 1024 (drop at other)) (take 1024 (drop at image))
-    (omega (arith, length-take 1024 (drop at other), length-take 1024 (drop at image), length-drop at other, length-drop at image, inside, kept.inside))
-    (λ i lt.
-    let under : i < 1024 = omega (arith, length-take 1024 (drop at other), length-drop at other, lt) in
-    get_or-take 1024 (drop at other) i 0 under ∙ get_or-drop at other i 0 ∙ kept.same (at + i) (omega arith) (omega (arith, under))
-    ∙ sym (get_or-take 1024 (drop at image) i 0 under ∙ get_or-drop at image i 0))
-
--- ---- bytes that are written over others
-
-pub length-over : (at : ℕ) (bytes b : List ℕ) → at + length bytes ≤ length b → length (over at bytes b) ≡ length b
-length-over at bytes b le = omega (arith, length-append (take at b ++ bytes) (drop (at + length bytes) b), length-append (take at b) bytes, length-take at b, length-drop (at + length bytes) b, le)
-
-pub over_out : (at : ℕ) (bytes b : List ℕ) (k : ℕ) → at ≤ length b → (k < at) ⊎ (at + length bytes ≤ k) → get_or (over at bytes b) k 0 ≡ get_or b k 0
-over_out at bytes b k le (inl lt) =
-    get_or_append_left (take at b ++ bytes) (drop (at + length bytes) b) 0 k (omega (arith, length-append (take at b) bytes, length-take at b, lt))
-    ∙ get_or_append_left (take at b) bytes 0 k (omega (arith, length-take at b, lt, le))
-    ∙ get_or-take at b k 0 lt
-over_out at bytes b k le (inr ge) =
-    let front : length (take at b ++ bytes) ≡ at + length bytes = omega (arith, length-append (take at b) bytes, length-take at b, le) in
-    let here : at + length bytes + (k - (at + length bytes)) ≡ k = omega (arith, ge) in
-    get_or-append_right (take at b ++ bytes) (drop (at + length bytes) b) (at + length bytes) k 0 front ge
-    ∙ get_or-drop (at + length bytes) b (k - (at + length bytes)) 0
-    ∙ ap (λ (j : ℕ). get_or b j 0) here
-
-over_in : (at : ℕ) (bytes b : List ℕ) (k : ℕ) → at ≤ length b → k < length bytes → get_or (over at bytes b) (at + k) 0 ≡ get_or bytes k 0
-over_in at bytes b k le lt =
-    let front : length (take at b) ≡ at = omega (arith, length-take at b, le) in
-    let here : at + k - at ≡ k = omega arith in
-    get_or_append_left (take at b ++ bytes) (drop (at + length bytes) b) 0 (at + k) (omega (arith, length-append (take at b) bytes, length-take at b, lt, le))
-    ∙ get_or-append_right (take at b) bytes at (at + k) 0 front (omega arith)
-    ∙ ap (λ (j : ℕ). get_or bytes j 0) here
+page_kept unit image other p inside kept = slice_same (p.at * unit) 1024 image other inside kept.inside kept.same
 
 -- ---- what is read from bytes that agree
 
@@ -150,10 +119,6 @@ module _ (p : Page) (b c : List ℕ) (slot : ℕ) (cell : Cell) (reads : ReadsAs
         ext_get_or no_cell (set p.cells slot cell) (cells_from 126 (drop 16 c)) (omega (arith, long, length-cells 126 (drop 16 c))) (λ i below. each i (omega (arith, below, long)));
   }
 
--- the byte of a page in its image
-pub byte_at : (unit : ℕ) (image : List ℕ) (at k : ℕ) → k < 1024 → get_or (page_at unit image at) k 0 ≡ get_or image (at * unit + k) 0
-byte_at unit image at k lt = get_or-take 1024 (drop (at * unit) image) k 0 lt ∙ get_or-drop (at * unit) image k 0
-
 -- the page is read with the cell that was written over its bytes
 pub page_written : (unit : ℕ) (image : List ℕ) (p : Page) (slot : ℕ) (cell : Cell) → ReadsAs p (page_at unit image p.at) → p.at * unit + 1024 ≤ length image → slot < 126 → FitsCell cell
     → ReadsAs (record p { cells = set p.cells slot cell }) (page_at unit (over (p.at * unit + 16 + 8 * slot) (cell_bytes cell) image) p.at)
@@ -165,7 +130,9 @@ page_written unit image p slot cell reads inside lt fits =
     reads_changed p (page_at unit image p.at) (page_at unit other p.at) slot cell reads lt fits
     (λ k below away.
     let apart : (at + k < target) ⊎ (target + 8 ≤ at + k) = ⊎_elim (λ before. inl (omega (arith, before))) (λ after. inr (omega (arith, after))) away in
-    byte_at unit other p.at k below ∙ over_out target (cell_bytes cell) image (at + k) starts apart ∙ sym (byte_at unit image p.at k below))
+    byte_of at 1024 other k below ∙ over_out target (cell_bytes cell) image (at + k) starts apart ∙ sym (byte_of at 1024 image k below))
     (λ k less.
     let there : at + (16 + 8 * slot + k) ≡ target + k = omega arith in
-    byte_at unit other p.at (16 + 8 * slot + k) (omega (arith, lt, less)) ∙ ap (λ (j : ℕ). get_or other j 0) there ∙ over_in target (cell_bytes cell) image k starts less)
+    let here : target + k - target ≡ k = omega arith in
+    byte_of at 1024 other (16 + 8 * slot + k) (omega (arith, lt, less)) ∙ ap (λ (j : ℕ). get_or other j 0) there
+    ∙ over_in target (cell_bytes cell) image (target + k) starts (omega arith) (omega (arith, less)) ∙ ap (λ (j : ℕ). get_or (cell_bytes cell) j 0) here)

@@ -1,8 +1,10 @@
 pub mod Bytes
+pub mod CellPlaces
 pub mod ChainLaws
 pub mod Chained
 pub mod Changes
 pub mod Images
+pub mod LaidCells
 pub mod Listings
 pub mod Lookups
 pub mod Ordered

@@ -1,16 +1,15 @@
 -- What pages name, and which pages are missing.
-use Rattle.std.proofs.Common.{◌≡◌, ◌≢◌, ◌⊎◌, inl, inr, ⊎_elim, ℕ, zero, suc, ◌+◌, ◌-◌, ◌*◌, ◌<◌, ◌≤◌, ◌^◌, Bool, true, false, List, [], ◌∷◌, ◌++◌, length, take, get_or, refl, sym, ◌∙◌, ap, subst, arith, append_assoc, append-nil, Option, Some, None}
-use Rattle.std.specs.Prelude.{All, AllPairs, Contains, ◌↔◌, IsSome, find, filter, not}
-use Rattle.std.proofs.lemmas.Bool.{cases_lt, cases_Bool, cases_eq}
+use Rattle.std.proofs.Common.{◌≡◌, ◌≢◌, ◌⊎◌, inl, inr, ⊎_elim, ℕ, suc, ◌+◌, ◌-◌, ◌*◌, ◌<◌, ◌≤◌, ◌^◌, Bool, true, false, List, [], ◌∷◌, ◌++◌, length, take, get_or, refl, sym, ◌∙◌, ap, subst, arith, Option, Some, None}
+use Rattle.std.specs.Prelude.{AllPairs, Contains, ◌↔◌, IsSome, find}
+use Rattle.std.proofs.lemmas.Bool.{cases_lt, cases_Bool}
 use Rattle.std.proofs.lemmas.Bool.Decides.{nat_tests}
 use Rattle.std.proofs.lemmas.List.{take_more, get_or_default}
-use Rattle.std.proofs.lemmas.List.Elements.{Contains-push, Contains-push_cases, Contains-append_left, filter_more}
+use Rattle.std.proofs.lemmas.List.Elements.{Contains-push, Contains-push_cases, Contains-append_left}
 use Rattle.std.proofs.lemmas.List.Sorted.{Contains-permutation, IsPermutation-sym}
-use Rattle.oc_layout.specs.declared.cells.Cell.{Cell}
 use Rattle.oc_layout.specs.declared.cells.Space.{Space}
 use Rattle.oc_pages.specs.declared.page.Page.{Page}
 use Rattle.oc_pages.specs.Order.{AreAscending}
-use Rattle.oc_pages.specs.Pages.{no_cell, is_empty, space_number, has_number, holds, slot_in, cell_in, pointer_in, page_of, page_holding, pointer_of, things_in, place_of, IsOther, IsPointed, IsMissing}
+use Rattle.oc_pages.specs.Pages.{no_cell, is_empty, space_number, has_number, holds, slot_in, cell_in, pointer_in, page_of, page_holding, pointer_of, IsOther, IsPointed, IsMissing}
 use Rattle.oc_pages.specs.Places.{no_page, page_in, chained, IsNamed}
 use Rattle.oc_pages.proofs.Chained.{same_pages}
 use Rattle.oc_pages.proofs.Lookups.{pointer_found, in_none, in_some}

@@ -1,15 +1,14 @@
 -- The page that is found among those kept is the one that is found along the chain.
-use Rattle.std.proofs.Common.{◌≡◌, ℕ, suc, zero, ◌+◌, ◌-◌, ◌*◌, ◌<◌, ◌≤◌, inl, inr, Bool, true, false, List, [], ◌∷◌, length, get_or, refl, sym, ◌∙◌, ap, subst, arith, Option, Some, None}
-use Rattle.std.specs.Prelude.{All, AllPairs, Contains, find, option_map}
+use Rattle.std.proofs.Common.{◌≡◌, ℕ, suc, zero, ◌+◌, ◌*◌, ◌<◌, inl, inr, Bool, true, false, List, [], ◌∷◌, length, get_or, sym, ◌∙◌, ap, arith, Option, Some, None}
+use Rattle.std.specs.Prelude.{All, AllPairs, find, option_map}
 use Rattle.std.specs.Option.{option_flatten}
 use Rattle.std.proofs.lemmas.Bool.{cases_Bool}
-use Rattle.std.proofs.lemmas.Bool.Decides.{nat_tests}
 use Rattle.std.proofs.lemmas.List.Sorted.{IsPermutation-sym, All-permutation}
 use Rattle.oc_layout.specs.declared.cells.Cell.{Cell}
 use Rattle.oc_layout.specs.declared.cells.Space.{Space}
 use Rattle.oc_pages.specs.declared.page.Page.{Page}
-use Rattle.oc_pages.specs.Pages.{no_cell, is_empty, is_page, holds, has_number, slot_in, cell_in, pointer_in, page_of, page_holding, pointer_of, target_of, IsOther}
-use Rattle.oc_pages.specs.Places.{no_page, page_in, chained}
+use Rattle.oc_pages.specs.Pages.{is_empty, is_page, holds, has_number, slot_in, cell_in, pointer_in, page_of, page_holding, pointer_of, target_of, IsOther}
+use Rattle.oc_pages.specs.Places.{page_in, chained}
 use Rattle.oc_pages.proofs.Chained.{same_pages, chained_none, chained_only, page_once, holder_once}
 
 pub holds_number : (space : Space) (number : ℕ) (p : Page) → holds space number p ≡ true → has_number p.index number ≡ true

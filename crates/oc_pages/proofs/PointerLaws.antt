@@ -1,8 +1,8 @@
 -- What changes of a page's cells do to pointers and to the places that are named.
-use Rattle.std.proofs.Common.{◌≡◌, ◌≢◌, ◌⊎◌, inl, inr, ℕ, zero, suc, ◌+◌, ◌-◌, ◌*◌, ◌<◌, ◌≤◌, Bool, true, false, List, [], ◌∷◌, ◌++◌, map, replicate, length, get_or, set, refl, sym, ◌∙◌, ap, subst, arith, Option, Some, None}
-use Rattle.std.specs.Prelude.{All, AllPairs, IsSome, filter, flat_map, find, sum_by, not, option_map}
+use Rattle.std.proofs.Common.{◌≡◌, inl, inr, ℕ, zero, suc, ◌+◌, ◌*◌, ◌<◌, true, false, List, [], ◌∷◌, ◌++◌, replicate, length, get_or, set, refl, sym, ◌∙◌, ap, arith, Option, Some, None}
+use Rattle.std.specs.Prelude.{All, AllPairs, filter, sum_by, not, option_map}
 use Rattle.std.specs.Option.{option_to_list, option_flatten}
-use Rattle.std.proofs.lemmas.Bool.{cases_Bool, cases_eq, cases_lt}
+use Rattle.std.proofs.lemmas.Bool.{cases_Bool}
 use Rattle.std.proofs.lemmas.Bool.Decides.{nat_tests}
 use Rattle.std.proofs.lemmas.List.{get_or-set_same, get_or-set_other, length-set, length-replicate}
 use Rattle.std.proofs.lemmas.List.Elements.{All-head, All-tail, All-cons, All-map, All-contains}
@@ -10,7 +10,7 @@ use Rattle.std.proofs.lemmas.List.Sums.{sum_by-append, sum_by-cons}
 use Rattle.oc_layout.specs.declared.cells.Cell.{Cell}
 use Rattle.oc_layout.specs.declared.cells.Space.{Space}
 use Rattle.oc_pages.specs.declared.page.Page.{Page}
-use Rattle.oc_pages.specs.Pages.{no_cell, is_empty, pointer_in, is_page, has_number, holds, slot_in, cell_in, page_of, page_holding, pointer_of, target_of, place_of, empty_page, with_cell, with_pointer, things_in, things_of, space_number, IsOther}
+use Rattle.oc_pages.specs.Pages.{no_cell, is_empty, pointer_in, is_page, holds, slot_in, cell_in, page_of, page_holding, pointer_of, target_of, place_of, empty_page, with_cell, with_pointer, things_in, things_of, space_number, IsOther}
 use Rattle.oc_pages.proofs.Changes.{with_held, with_other, no_cells}
 use Rattle.oc_pages.proofs.ChainLaws.{with_none, others_none}
 use Rattle.oc_pages.proofs.Chained.{find_none}

@@ -1,12 +1,12 @@
 -- A chain is walked from its root cell on.
-use Rattle.std.proofs.Common.{◌≡◌, ◌≢◌, ◌⊎◌, inl, inr, ℕ, suc, ◌+◌, ◌*◌, ◌<◌, ◌≤◌, Bool, true, false, List, [], ◌∷◌, ◌++◌, length, get_or, refl, sym, ◌∙◌, ap, subst, arith, append-nil, length-append, ◌-◌}
+use Rattle.std.proofs.Common.{◌≡◌, ℕ, ◌+◌, ◌≤◌, true, false, List, [], ◌∷◌, ◌++◌, length, get_or, refl, sym, ◌∙◌, ap, subst, arith, append-nil, length-append, ◌-◌}
 use Rattle.std.specs.Prelude.{All, AllPairs, Any}
 use Rattle.std.proofs.lemmas.Bool.Decides.{nat_tests}
 use Rattle.std.proofs.lemmas.List.{get_or_append_left, get_or-append_right}
 use Rattle.oc_layout.specs.declared.cells.Cell.{Cell}
 use Rattle.oc_layout.specs.Layout.{first_cell}
 use Rattle.oc_pages.specs.declared.page.Page.{Page}
-use Rattle.oc_pages.specs.Pages.{no_cell, is_empty, is_page, space_number, place_of, first_of, IsInRange, IsOther}
+use Rattle.oc_pages.specs.Pages.{no_cell, is_empty, is_page, place_of, first_of, IsInRange, IsOther}
 use Rattle.oc_pages.specs.Chains.{StandsAt, ReadsAs, Leads, Chain, HasPages, page_at}
 use Rattle.oc_pages.proofs.Tables.{same_space}
 

@@ -6,6 +6,7 @@
 #![tactic(auto)]
 
 mod fault;
+mod laying;
 mod listing;
 mod loading;
 mod order;
@@ -13,8 +14,10 @@ mod page;
 mod pages;
 mod places;
 mod table;
+mod targets;
 #[cfg(test)]
 mod tests;
 
 pub use fault::PagesFault;
+pub use order::ascending;
 pub use pages::Pages;

@@ -4,14 +4,11 @@ use crate::loading::walk;
 use crate::order::ascending;
 use crate::page::{NO_CELL, PAGE, empty_page, index_of, is_empty, slot_of, write_page};
 use crate::table::PageTable;
+use crate::targets::{CELL, FIRST_CELL, are_cells, starts_of};
 use oc_host::Host;
-use oc_layout::{Cell, Space};
+use oc_layout::{Cell, CellWrite, Space};
 use std::alloc::{AllocError, Global};
 use std::marker::Model;
-
-const FIRST_CELL: u64 = 16;
-
-const CELL: u64 = 8;
 
 /// The pages of a file, which say which number of which space has which cell.
 ///
@@ -42,15 +39,17 @@ impl Model for Pages {
 }
 
 impl Pages {
-    ghost use Rattle.std.specs.Prelude.{◌≡◌, ◌<◌, ◌≤◌, ◌^◌, ◌+◌, ◌*◌, ℕ, true, false, None, [], ◌∷◌, ◌++◌, List, length, All, AllPairs, Contains, IfOk, IfSome, IfNone, IsSome, IsTrue, IsErrOf, OnOk, MatchOption, option_map, slice_index_or};
+    ghost use Rattle.std.specs.Prelude.{◌≡◌, ◌<◌, ◌≤◌, ◌^◌, ◌+◌, ◌*◌, ℕ, true, false, None, [], ◌∷◌, ◌++◌, List, length, All, AllPairs, Any, Contains, IfOk, IfSome, IfNone, IsSome, IsTrue, IsErrOf, OnOk, MatchOption, option_map, slice_index_or};
     ghost use Rattle.std.specs.Option.{option_copied};
     ghost use Rattle.oc_host.specs.Counts.{Rose};
     ghost use Rattle.oc_host.specs.Disk.{Looks};
     ghost use Rattle.oc_layout.specs.declared.cells.Cell.{Cell};
+    ghost use Rattle.oc_log.specs.Log.{put_cells, AllWithin};
     ghost use Rattle.oc_pages.specs.declared.fault.PagesFault.TheVariants as pages_fault;
     ghost use Rattle.oc_pages.specs.declared.page.Page.{Page};
     ghost use Rattle.oc_pages.specs.Chains.{Chain, HasPages, SpellsPage};
     ghost use Rattle.oc_pages.specs.Order.{AreAscending};
+    ghost use Rattle.oc_pages.specs.Targets.{IsTargetIn};
     ghost use Rattle.oc_pages.specs.Pages.{is_page, page_of, page_holding, pointer_of, target_of, first_of, empty_page, with_pointer, things_of, IsOther, IsMissing};
 
     /// No pages, as a file has them that is being made. `unit` is the bytes in a block.
@@ -94,7 +93,43 @@ impl Pages {
             Chain unit (H.disk host.old).bytes root pages →
             H.taken host.new ≤ H.taken host.old + 1024 * length pages }
     {
-        let table = walk(alloc, host, root, unit)?;
+        let table = walk(alloc, host, root, unit, &[])?;
+        Ok(Pages {
+            unit,
+            first: root,
+            loaded: table.len(),
+            table,
+        })
+    }
+
+    /// Reads the pages of a file, as `load`, but of the file as it is with these cells put in, one after another. It
+    /// is for a file whose log is open: nothing is written.
+    pub fn load_with<H: Host>(
+        alloc: Global,
+        host: &mut H,
+        root: Cell,
+        unit: u32,
+        cells: &[CellWrite],
+    ) -> Result<Pages, PagesFault>
+        requires within { IsTrue H.tells → AllWithin (length (H.disk host.old).bytes) cells.now }
+        ensures chain { IfOk result (λ pages. IsTrue H.tells →
+            HasPages unit (put_cells cells.now (H.disk host.old).bytes) root pages.pages) }
+        ensures no_page { IsErrOf result pages_fault.NotAPage → IsTrue H.tells →
+            (pages : List Page) →
+            HasPages unit (put_cells cells.now (H.disk host.old).bytes) root pages → ⊥ }
+        ensures unit { IfOk result (λ pages. pages.unit ≡ unit) }
+        ensures first { IfOk result (λ pages. first_of pages.pages ≡ root) }
+        ensures distinct { IfOk result (λ pages. AllPairs IsOther pages.pages) }
+        ensures looks { IsTrue H.tells → Looks (H.disk host.old) (H.disk host.new) }
+        ensures later { H.faults host.old ≤ H.faults host.new }
+        ensures cause { IsErrOf result pages_fault.Host → Rose (H.faults host.old) (H.faults host.new) }
+        ensures taken { IfOk result (λ pages.
+            H.taken host.new ≤ H.taken host.old + 1024 * length pages.pages) }
+        ensures taken_along { IsTrue H.tells → (pages : List Page) →
+            Chain unit (put_cells cells.now (H.disk host.old).bytes) root pages →
+            H.taken host.new ≤ H.taken host.old + 1024 * length pages }
+    {
+        let table = walk(alloc, host, root, unit, cells)?;
         Ok(Pages {
             unit,
             first: root,
@@ -119,6 +154,17 @@ impl Pages {
         let place = self.table.holding(space, number)?;
         let start = self.table.page(place).at as u64 * self.unit as u64;
         Some(start + FIRST_CELL + CELL * slot_of(number) as u64)
+    }
+
+    /// Whether each of these cells is to stand where the cell of some number does.
+    pub fn are_targets(&self, alloc: Global, cells: &[CellWrite]) -> Result<bool, AllocError>
+        ensures yes { IfOk result (λ are. IsTrue are →
+            All (λ w. IsTargetIn self.now.unit self.now.pages w.target) cells.now) }
+        ensures no { IfOk result (λ are. are ≡ false →
+            Any (λ w. ¬ IsTargetIn self.now.unit self.now.pages w.target) cells.now) }
+    {
+        let starts = starts_of(alloc, &self.table, self.unit)?;
+        Ok(are_cells(&starts, cells))
     }
 
     /// The indexes of the pages that have to be added to hold these numbers, ascending, each once.

@@ -1,7 +1,10 @@
 // Files with pages in them, of blocks of 1, 16 and 64 bytes.
+ghost use Rattle.std.specs.Prelude.{IsTrue};
+ghost use Rattle.oc_log.specs.Log.{AllWithin};
+
 use crate::{Pages, PagesFault};
 use oc_host::MemHost;
-use oc_layout::{Cell, Space};
+use oc_layout::{Cell, CellWrite, Space};
 use std::alloc::{AllocError, Global};
 use std::test::Fail;
 
@@ -274,5 +277,182 @@ fn a_page_is_spelled(rt: HostRuntime) -> Result<(), Fail> {
     ];
     assert_eq!(rt; &bytes[..36], front.as_slice());
     assert!(rt; pages.page(Space::Objects, 0).is_none());
+    Ok(())
+}
+
+fn write_at(target: u64, cell: Cell) -> CellWrite {
+    CellWrite { target, cell }
+}
+
+fn are_within(len: u64, cells: &[CellWrite]) -> bool
+    ensures { IsTrue result → AllWithin len cells.now }
+{
+    match cells {
+        [] => true,
+        [first, rest @ ..] => {
+            first.target < len && len - first.target >= 8 && are_within(len, rest)
+        }
+    }
+}
+
+// A page of objects with these cells put in, and one of the system behind it. `None` stands for cells outside.
+fn settled(
+    alloc: Global,
+    link: Cell,
+    cells: &[CellWrite],
+) -> Result<Option<Result<Pages, PagesFault>>, AllocError> {
+    let front = Row { link, ..OBJECTS };
+    let mut host = host_of(alloc, &[front, SYSTEM], 0)?;
+    if !are_within(host.bytes().len() as u64, cells) {
+        return Ok(None);
+    }
+    let pages = Pages::load_with(alloc, &mut host, page_at(2048), 1, cells);
+    Ok(Some(pages))
+}
+
+// The pointers of the numbers 4, 5 and 126 of the objects, and of 378 of the system.
+fn pointers_of(pages: &Pages) -> [Option<Cell>; 4] {
+    [
+        pages.pointer(Space::Objects, 4),
+        pages.pointer(Space::Objects, 5),
+        pages.pointer(Space::Objects, 126),
+        pages.pointer(Space::System, 378),
+    ]
+}
+
+#[test]
+fn pages_are_read_with_a_log_put_in(rt: HostRuntime) -> Result<(), Fail> {
+    let five = Some(Cell { at: 3, len: 9 });
+    let last = Some(Cell { at: 5, len: 0 });
+    let other = Cell { at: 8, len: 6 };
+    for (link, cells, want) in [
+        (
+            NO_CELL,
+            [write_at(0, other), write_at(3072, other)],
+            [None, five, None, None],
+        ),
+        (
+            NO_CELL,
+            [write_at(2096, other), write_at(3072, other)],
+            [None, Some(other), None, None],
+        ),
+        (
+            NO_CELL,
+            [write_at(2096, other), write_at(2096, page_at(1))],
+            [None, Some(page_at(1)), None, None],
+        ),
+        (
+            NO_CELL,
+            [write_at(2092, other), write_at(3068, other)],
+            [
+                Some(Cell { at: 0, len: 8 }),
+                Some(Cell { at: 6, len: 9 }),
+                Some(Cell { at: 0, len: 8 }),
+                None,
+            ],
+        ),
+        (
+            NO_CELL,
+            [write_at(2048, page_at(4096)), write_at(5112, other)],
+            [None, five, None, Some(other)],
+        ),
+        (
+            page_at(1),
+            [
+                write_at(2044, Cell { at: 7, len: 4096 }),
+                write_at(6136, other),
+            ],
+            [None, five, None, last],
+        ),
+    ] {
+        let read = settled(rt.alloc(), link, &cells)?.expect(&rt, "cells inside");
+        let pages = read.expect(&rt, "pages");
+        assert_eq!(rt; pointers_of(&pages), want);
+    }
+    Ok(())
+}
+
+#[test]
+fn what_is_no_chain_with_a_log_put_in_is_refused(rt: HostRuntime) -> Result<(), Fail> {
+    for (target, cell) in [
+        (2048, page_at(2048)),
+        (2048, page_at(5121)),
+        (2052, Cell { at: 1, len: 1 }),
+        (2056, Cell { at: 3, len: 0 }),
+        (
+            2056,
+            Cell {
+                at: 2,
+                len: 17_043_521,
+            },
+        ),
+        (2052, Cell { at: 0, len: 0 }),
+    ] {
+        let read = settled(rt.alloc(), NO_CELL, &[write_at(target, cell)])?;
+        let fault = match read.expect(&rt, "cells inside") {
+            Ok(_) => None,
+            Err(fault) => Some(fault),
+        };
+        assert_eq!(rt; fault, Some(PagesFault::NotAPage), "at {target}");
+    }
+    Ok(())
+}
+
+#[test]
+fn cells_of_numbers_are_known(rt: HostRuntime) -> Result<(), Fail> {
+    for (unit, first, second) in [(1, 2048, 4096), (16, 128, 256), (64, 32, 64)] {
+        let pages = both(rt.alloc(), unit, first, second)?.expect(&rt, "two pages");
+        assert!(rt; pages.are_targets(rt.alloc(), &[])?);
+        for (target, want) in [
+            (0, false),
+            (2048, false),
+            (2056, false),
+            (2063, false),
+            (2064, true),
+            (2065, false),
+            (2072, true),
+            (3064, true),
+            (3065, false),
+            (3072, false),
+            (4104, false),
+            (4112, true),
+            (5112, true),
+            (5120, false),
+            (18_446_744_073_709_551_608, false),
+        ] {
+            for cells in [
+                [write_at(target, NO_CELL), write_at(5112, NO_CELL)],
+                [write_at(2064, NO_CELL), write_at(target, NO_CELL)],
+            ] {
+                assert_eq!(rt; pages.are_targets(rt.alloc(), &cells)?, want, "at {target}");
+            }
+        }
+    }
+    Ok(())
+}
+
+#[test]
+fn cells_of_pages_that_overlap_are_known(rt: HostRuntime) -> Result<(), Fail> {
+    let mut pages = Pages::new(rt.alloc(), 1);
+    add(&mut pages, Space::Objects, 0, 2056)?;
+    add(&mut pages, Space::System, 0, 2052)?;
+    add(&mut pages, Space::Objects, 1, 2049)?;
+    for (target, want) in [
+        (2064, false),
+        (2065, true),
+        (2068, true),
+        (2072, true),
+        (2074, false),
+        (3065, true),
+        (3068, true),
+        (3072, true),
+        (3073, false),
+    ] {
+        assert_eq!(rt;
+            pages.are_targets(rt.alloc(), &[write_at(target, NO_CELL)])?,
+            want,
+            "at {target}"
+        );
+    }
     Ok(())
 }

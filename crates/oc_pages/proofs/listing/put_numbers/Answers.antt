@@ -1,4 +1,4 @@
-use Rattle.std.proofs.Common.{◌≡◌, ◌∙◌, ◌<◌, ◌≤◌, ◌+◌, ◌*◌, ◌^◌, ◌++◌, [], ◌∷◌, ℕ, List, Vec, Global, get_or, sym, ap, subst, rules, arith, true, false}
+use Rattle.std.proofs.Common.{◌≡◌, ◌∙◌, ◌<◌, ◌≤◌, ◌+◌, ◌*◌, ◌++◌, [], ◌∷◌, ℕ, List, Vec, Global, get_or, sym, ap, subst, rules, arith, true, false}
 use Rattle.oc_pages.specs.Pages.{no_cell, is_empty, space_number}
 use Rattle.oc_pages.proofs.Listings.{EarlyNumbers, early_fits, early_more, early_same, early_all}
 use Rattle.oc_pages.proofs.listing.put_numbers.Goals as goal

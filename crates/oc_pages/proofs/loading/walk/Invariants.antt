@@ -1,6 +1,7 @@
 use Rattle.std.proofs.Common.{◌≡◌, ◌≤◌, ◌+◌, ◌-◌, ◌*◌, ◌^◌, length}
 use Rattle.std.specs.Prelude.{IsTrue, All, AllPairs}
 use Rattle.oc_host.specs.Disk.{Looks}
+use Rattle.oc_log.specs.Log.{put_cells, AllWithin}
 use Rattle.oc_pages.specs.Pages.{IsInRange, IsOther}
 use Rattle.oc_pages.specs.Chains.{Leads}
 use Rattle.oc_pages.proofs.Walks.{first_or}
@@ -9,8 +10,9 @@ use Rattle.oc_pages.proofs.loading.walk.Given as goal
 abbrev pub invariant-loop-next : goal.invariant-loop-next
 invariant-loop-next g l = record {
   size : IsTrue g.H.Host.tells → l.len ≡ length (g.H.Host.disk l.fn.host).bytes;
+  within : IsTrue g.H.Host.tells → AllWithin (length (g.H.Host.disk l.host).bytes) l.cells;
   looks : IsTrue g.H.Host.tells → Looks (g.H.Host.disk l.fn.host) (g.H.Host.disk l.host);
-  leads : IsTrue g.H.Host.tells → Leads l.unit (g.H.Host.disk l.fn.host).bytes l.fn.root l.table.pages l.next;
+  leads : IsTrue g.H.Host.tells → Leads l.unit (put_cells l.cells (g.H.Host.disk l.fn.host).bytes) l.fn.root l.table.pages l.next;
   first : first_or l.next l.table.pages ≡ l.fn.root;
   in_range : All IsInRange l.table.pages;
   distinct : AllPairs IsOther l.table.pages;

@@ -1,7 +1,6 @@
-use Rattle.std.proofs.Common.{◌≡◌, ◌∙◌, sym, subst, rules, ℕ, List}
-use Rattle.std.specs.List.Sorted.{IsNonDecreasing, IsPermutation}
+use Rattle.std.proofs.Common.{sym, subst, ℕ}
+use Rattle.std.specs.List.Sorted.{IsNonDecreasing}
 use Rattle.std.proofs.lemmas.List.Sorted.{IsNonDecreasingBy-from_sort}
-use Rattle.oc_pages.specs.Order.{AreAscending}
 use Rattle.oc_pages.proofs.Ordered.{permuted}
 use Rattle.oc_pages.proofs.order.ascending.Goals as goal
 

@@ -1,4 +1,4 @@
-use Rattle.std.proofs.Common.{◌≡◌, ◌∙◌, ◌<◌, ◌≤◌, ◌-◌, length, sym, ap, rules, get_or, arith, subst, take, ℕ, List, [], ◌∷◌, ◌++◌, ◌+◌, Vec, Global}
+use Rattle.std.proofs.Common.{◌≡◌, ◌∙◌, ◌<◌, ◌-◌, length, sym, ap, rules, get_or, subst, take, ℕ, List, [], ◌∷◌, ◌++◌, ◌+◌, Vec, Global}
 use Rattle.std.specs.Prelude.{Contains}
 use Rattle.oc_pages.proofs.Ordered.{IsOnce, once_same, once_more, once_all}
 use Rattle.oc_pages.proofs.order.each_once.Goals as goal

@@ -1,4 +1,4 @@
-use Rattle.std.proofs.Common.{◌≡◌, ◌+◌, ◌*◌, ◌-◌, ◌<◌, ◌∙◌, length, drop, set, ap, arith, rules, length-drop}
+use Rattle.std.proofs.Common.{◌∙◌, length, drop, ap, arith, length-drop}
 use Rattle.std.proofs.lemmas.List.{length-set}
 use Rattle.oc_pages.specs.Chains.{cells_from}
 use Rattle.oc_pages.proofs.Bytes.{read_more, read_all}

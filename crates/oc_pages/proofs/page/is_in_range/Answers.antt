@@ -1,5 +1,4 @@
-use Rattle.std.proofs.Common.{◌≡◌, ◌∙◌, false, sym, ap, rules, get_or}
-use Rattle.oc_layout.specs.declared.cells.Cell.{Cell}
+use Rattle.std.proofs.Common.{◌≡◌, false, rules, get_or}
 use Rattle.oc_pages.specs.Pages.{is_empty, no_cell}
 use Rattle.oc_pages.proofs.Ranges.{out_of_range}
 use Rattle.oc_pages.proofs.page.is_in_range.Goals as goal

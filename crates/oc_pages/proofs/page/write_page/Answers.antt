@@ -1,6 +1,5 @@
-use Rattle.std.proofs.Common.{◌≡◌, ◌∙◌, ◌+◌, ◌*◌, ◌≤◌, ◌<◌, length, refl, sym, ap, rules, get_or, arith, subst}
+use Rattle.std.proofs.Common.{◌≡◌, ◌∙◌, length, refl, rules, arith}
 use Rattle.std.proofs.lemmas.List.Elements.{All-more}
-use Rattle.oc_layout.specs.declared.cells.Cell.{Cell}
 use Rattle.oc_layout.specs.Layout.{FitsCell}
 use Rattle.oc_pages.specs.Pages.{no_cell}
 use Rattle.oc_pages.proofs.Bytes.{written_more}

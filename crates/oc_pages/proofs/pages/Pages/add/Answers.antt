@@ -1,4 +1,4 @@
-use Rattle.std.proofs.Common.{◌≡◌, ◌++◌, [], ◌∷◌, List, sym, ap, subst, false, None}
+use Rattle.std.proofs.Common.{◌≡◌, ◌∷◌, sym, ap, subst, false, None}
 use Rattle.std.specs.Prelude.{All}
 use Rattle.oc_pages.specs.declared.page.Page.{Page}
 use Rattle.oc_pages.specs.Pages.{Paged, is_page, page_of, place_of, first_of, empty_page}

@@ -1,7 +1,4 @@
-use Rattle.std.proofs.Common.{◌≡◌, ℕ, List, length, sym, ap, subst, rules}
-use Rattle.std.specs.Prelude.{AllPairs}
-use Rattle.oc_pages.specs.declared.page.Page.{Page}
-use Rattle.oc_pages.specs.Pages.{IsOther}
+use Rattle.std.proofs.Common.{ℕ, sym, subst}
 use Rattle.oc_pages.specs.Places.{IsOrdered}
 use Rattle.oc_pages.proofs.Chained.{distinct_chained}
 use Rattle.oc_pages.proofs.Changes.{ordered_all}

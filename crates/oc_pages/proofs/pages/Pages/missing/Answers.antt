@@ -1,8 +1,8 @@
-use Rattle.std.proofs.Common.{◌≡◌, ◌∙◌, ◌≤◌, ◌+◌, ◌<◌, ◌++◌, [], ◌∷◌, ℕ, List, length, get_or, take, sym, ap, subst, rules, arith, true, false, is_none, Vec, Global, Option, None, Some, IfNone, IfSome}
+use Rattle.std.proofs.Common.{◌≡◌, ◌∙◌, ◌+◌, ◌<◌, ◌++◌, [], ◌∷◌, ℕ, List, length, get_or, take, sym, ap, subst, rules, true, false, is_none, Vec, Global, Option, None, Some, IfNone, IfSome}
 use Rattle.std.specs.Prelude.{◌↔◌, Contains, All}
 use Rattle.std.proofs.lemmas.List.{take_all}
 use Rattle.oc_pages.specs.Order.{AreAscending}
-use Rattle.oc_pages.specs.Pages.{Paged, has_number, is_page, page_of, IsMissing}
+use Rattle.oc_pages.specs.Pages.{Paged, has_number, is_page, IsMissing}
 use Rattle.oc_pages.specs.Places.{chained, page_in}
 use Rattle.oc_pages.proofs.Listings.{missing_push, missing_skip, missing_all, ascending_are}
 use Rattle.oc_pages.proofs.Lookups.{page_none, page_found}

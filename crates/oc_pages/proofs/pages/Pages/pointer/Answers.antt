@@ -1,5 +1,4 @@
-use Rattle.std.proofs.Common.{◌≡◌, ◌∙◌, ℕ, List, get_or, sym, subst, rules, true, false, Option, Some, None}
-use Rattle.oc_layout.specs.declared.cells.Cell.{Cell}
+use Rattle.std.proofs.Common.{◌≡◌, ◌∙◌, ℕ, get_or, sym, subst, rules, true, false, Some, None}
 use Rattle.oc_pages.specs.declared.page.Page.{Page}
 use Rattle.oc_pages.specs.Pages.{Paged, no_cell, is_empty, slot_in, cell_in, pointer_of}
 use Rattle.oc_pages.specs.Places.{page_in}

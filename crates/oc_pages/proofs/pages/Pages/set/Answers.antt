@@ -1,7 +1,7 @@
-use Rattle.std.proofs.Common.{◌≡◌, ◌<◌, ◌^◌, ◌∙◌, List, sym, ap, subst, true, is_some, Option, None, arith, rules}
+use Rattle.std.proofs.Common.{◌≡◌, ◌<◌, ◌^◌, ap, subst, is_some, Option, None, rules}
 use Rattle.std.specs.Prelude.{IsSome}
 use Rattle.oc_pages.specs.declared.page.Page.{Page}
-use Rattle.oc_pages.specs.Pages.{Paged, page_holding, slot_in, with_pointer}
+use Rattle.oc_pages.specs.Pages.{Paged, page_holding, with_pointer}
 use Rattle.oc_pages.specs.Places.{page_in, chained}
 use Rattle.oc_pages.proofs.Chained.{distinct_chained}
 use Rattle.oc_pages.proofs.Changes.{pages_set, ordered_set}

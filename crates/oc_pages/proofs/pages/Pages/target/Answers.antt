@@ -1,4 +1,4 @@
-use Rattle.std.proofs.Common.{◌≡◌, ◌∙◌, ◌+◌, ◌*◌, ℕ, sym, subst, rules, Some, None}
+use Rattle.std.proofs.Common.{◌≡◌, ◌∙◌, ◌+◌, ◌*◌, sym, subst, rules, Some, None}
 use Rattle.oc_pages.specs.Pages.{Paged, slot_in, target_of}
 use Rattle.oc_pages.specs.Places.{page_in}
 use Rattle.oc_pages.proofs.Lookups.{holds_number, target_none, target_found}

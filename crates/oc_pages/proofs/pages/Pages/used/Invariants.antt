@@ -1,4 +1,4 @@
-use Rattle.std.proofs.Common.{◌≡◌, ◌≤◌, ◌++◌, reverse, take, drop, length}
+use Rattle.std.proofs.Common.{◌≡◌, ◌≤◌, ◌++◌, reverse, take, drop}
 use Rattle.std.specs.Prelude.{flat_map}
 use Rattle.oc_pages.specs.Pages.{things_in}
 use Rattle.oc_pages.proofs.pages.Pages.used.Given as goal

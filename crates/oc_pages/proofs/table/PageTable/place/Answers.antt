@@ -1,7 +1,6 @@
-use Rattle.std.proofs.Common.{◌≡◌, ◌∙◌, sym, ap, subst, rules, Some, None, IfNone}
-use Rattle.std.specs.Prelude.{All, AllPairs, false}
-use Rattle.oc_pages.specs.declared.page.Page.{Page}
-use Rattle.oc_pages.specs.Pages.{is_page, IsOther}
+use Rattle.std.proofs.Common.{subst, rules}
+use Rattle.std.specs.Prelude.{AllPairs}
+use Rattle.oc_pages.specs.Pages.{IsOther}
 use Rattle.oc_pages.specs.Places.{Kept}
 use Rattle.oc_pages.proofs.Tables.{none_kept, distinct_kept}
 use Rattle.oc_pages.proofs.table.PageTable.place.Goals as goal

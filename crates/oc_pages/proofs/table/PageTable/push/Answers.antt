@@ -1,9 +1,9 @@
 use Rattle.std.proofs.Common.{◌≡◌, ◌≤◌, ◌-◌, ◌++◌, [], ◌∷◌, List, refl, rules, true, is_ok, min, length, sym, ap, subst, arith, ◌∙◌, Some}
-use Rattle.std.specs.Prelude.{All, AllPairs, false}
+use Rattle.std.specs.Prelude.{All, false}
 use Rattle.std.specs.Vec.{vec_len, vec_capacity}
 use Rattle.oc_pages.specs.declared.page.Page.{Page}
-use Rattle.oc_pages.specs.Pages.{is_page, IsOther}
-use Rattle.oc_pages.specs.Places.{Kept, IsIndexed, place_in, spare_in}
+use Rattle.oc_pages.specs.Pages.{is_page}
+use Rattle.oc_pages.specs.Places.{Kept, IsIndexed, spare_in}
 use Rattle.oc_pages.proofs.Tables.{indexed_more, distinct_kept}
 use Rattle.oc_pages.proofs.table.PageTable.push.Goals as goal
 

@@ -1,4 +1,4 @@
-use Rattle.std.proofs.Common.{◌≡◌, ◌<◌, ◌∙◌, length, ap, arith, rules}
+use Rattle.std.proofs.Common.{◌≡◌, ◌<◌, ◌∙◌, length, ap, rules}
 use Rattle.std.proofs.lemmas.List.{get_or_default}
 use Rattle.oc_pages.specs.declared.page.Page.{Page}
 use Rattle.oc_pages.specs.Places.{page_in, no_page}
