@@ -8,14 +8,14 @@ use Rattle.std.specs.declared.cmp.Ordering.TheVariants.{Less, Equal, Greater}
 use Rattle.std.specs.Ordering.{is_lt}
 use Rattle.std.proofs.lemmas.Bool.{false≢true}
 use Rattle.std.proofs.lemmas.Bool.Decides.{nat_tests}
-use Rattle.std.proofs.lemmas.List.{take_all, take_more, take_more_set, drop-set-lt, length-set}
+use Rattle.std.proofs.lemmas.List.{take_all, drop_all, take_more, take_more_set, drop-set-lt, length-set}
 use Rattle.std.proofs.lemmas.List.Concat.{flat_map-append}
 use Rattle.oc_chunks.specs.declared.opening.Written.{Written}
 use Rattle.oc_chunks.specs.declared.piece.Piece.{Piece}
 use Rattle.oc_chunks.specs.Ascending.{Each, IsAscending}
 use Rattle.oc_chunks.specs.Between.{entries_in}
 use Rattle.oc_chunks.specs.Chunks.{Chunk, IsSizedChunk, joined, numbers}
-use Rattle.oc_chunks.specs.Opening.{chunk_read, piece_read, number_from, spare_behind, written, IsList, Follows}
+use Rattle.oc_chunks.specs.Opening.{chunk_read, piece_read, number_from, spare_behind, spare_of, written, IsList, Follows}
 use Rattle.oc_chunks.specs.Pieces.{present, chunks_now, chunks_then, IsSound}
 use Rattle.oc_chunks.specs.Settling.{IsSettled}
 use Rattle.oc_chunks.proofs.Eaches.{each_append, each_rest, each_more, each_at, pairs_front, pairs_across}
@@ -139,6 +139,9 @@ module _ {X : Type 0} (cmp : X → X → Ordering) where
   pub wrote_more : (p : Piece X) (spare : List ℕ) (cs : List (Chunk X)) → IsSettled p → written spare (chunks_now p ++ cs) ≡ chunks_now (wrote p spare) ++ written (spare_behind p.part.number spare) cs
   wrote_more p spare cs s = ap (λ l. written spare (l ++ cs)) (whole_chunk p s) ∙ ap (λ l. l ++ written (spare_behind p.part.number spare) cs) (sym (whole_chunk (wrote p spare) (wrote_settled p spare s)))
 
+  pub wrote_left : (p : Piece X) (spare : List ℕ) (cs : List (Chunk X)) → IsSettled p → spare_of spare (chunks_now p ++ cs) ≡ spare_of (spare_behind p.part.number spare) cs
+  wrote_left p spare cs s = ap (λ l. spare_of spare (l ++ cs)) (whole_chunk p s)
+
   pub number_one : (n : Option ℕ) (c : Chunk X) → c.number ≡ n → option_to_list n ≡ numbers (c ∷ [])
   number_one None c is = sym (rw is refl)
   number_one (Some k) c is = sym (rw is refl)
@@ -176,6 +179,7 @@ module _ {X : Type 0} (cmp : X → X → Ordering) (nums : List ℕ) (init : Lis
     pub settled : Each IsSettled (take at ps)
     pub entries : entries_in (take at ps) ≡ entries_in (take at init)
     pub chunks : flat_map chunks_now (take at ps) ++ written spare (flat_map chunks_now (drop at init)) ≡ written nums (flat_map chunks_now init)
+    pub left : spare_of spare (flat_map chunks_now (drop at init)) ≡ spare_of nums (flat_map chunks_now init)
 
   pub wrote_step : (ps : List (Piece X)) (spare : List ℕ) (at : ℕ) → Wrote ps spare at → at < length ps → (q n : Piece X) → q ≡ get_or ps at q → n ≡ wrote cmp q spare → (left : List ℕ) → left ≡ spare_behind q.part.number spare → Wrote (set ps at n) left (at + 1)
   wrote_step ps spare at w lt q n q_is n_is left left_is =
@@ -197,12 +201,16 @@ module _ {X : Type 0} (cmp : X → X → Ordering) (nums : List ℕ) (init : Lis
             ∙ append_assoc (flat_map chunks_now (take at ps)) (chunks_now (wrote cmp q spare)) (written (spare_behind q.part.number spare) cs)
             ∙ ap (λ l. flat_map chunks_now (take at ps) ++ l) (sym (wrote_more cmp q spare cs s) ∙ ap (written spare) (sym behind))
             ∙ w.chunks;
+        left = ap (λ l. spare_of l cs) left_is ∙ sym (wrote_left cmp q spare cs s) ∙ ap (spare_of spare) (sym behind) ∙ w.left;
       }
 
   pub wrote_all : (ps : List (Piece X)) (spare : List ℕ) (at : ℕ) → Wrote ps spare at → length init ≤ at → (Each IsSettled ps) × (entries_in ps ≡ entries_in init)
   wrote_all ps spare at w le =
       let whole : take at ps ≡ ps = take_all at ps (omega (arith, w.long, le)) in
       (subst (Each IsSettled) whole w.settled, ap entries_in (sym whole) ∙ w.entries ∙ ap entries_in (take_all at init le))
+
+  pub wrote_rest : (ps : List (Piece X)) (spare : List ℕ) (at : ℕ) → Wrote ps spare at → length init ≤ at → spare ≡ spare_of nums (flat_map chunks_now init)
+  wrote_rest ps spare at w le = ap (λ l. spare_of spare (flat_map chunks_now l)) (sym (drop_all at init le)) ∙ w.left
 
 -- ---- chunks that are read one by one
 

@@ -31,3 +31,7 @@ module _ {X : Type 0} where
     pub behind : new ≡ old ++ made
     pub each : Each (IsMade bytes most) made
     pub items : items_of made ≡ es
+
+  -- no entry takes more bytes
+  abbrev pub IsWide : (X → ℕ) → ℕ → List X → Type 0
+  IsWide bytes widest = Each (λ e. bytes e ≤ widest)

@@ -10,3 +10,4 @@ pub mod Chunks
 pub mod Cutting
 pub mod Editing
 pub mod Pieces
+pub mod Lists

@@ -49,6 +49,11 @@ module _ {X : Type 0} where
     pub ascending : IsAscending cmp (entries_in ps)
     pub chunks : flat_map chunks_now ps ≡ cs
 
+  -- the numbers that are left of these once each chunk without a number has got one
+  abbrev pub spare_of : List ℕ → List (Chunk X) → List ℕ
+  spare_of spare [] = spare
+  spare_of spare (c ∷ cs) = spare_of (spare_behind c.number spare) cs
+
   -- the chunks once they are written: none has changed since, and those without a number have got the next of these
   abbrev pub written : List ℕ → List (Chunk X) → List (Chunk X)
   written spare [] = []

@@ -1,9 +1,10 @@
 //! An entry more in the pieces.
 
-ghost use Rattle.std.specs.Prelude.{◌≡◌, ◌≤◌, ◌+◌, ◌==◌, true, length, flat_map, IfOk, IfErr, OnOk, OnErr};
+ghost use Rattle.std.specs.Prelude.{◌≡◌, ◌≤◌, ◌∷◌, ◌+◌, ◌==◌, true, length, flat_map, IfOk, IfErr, OnOk, OnErr};
 ghost use Rattle.std.specs.declared.cmp.Ordering.TheVariants.{Less};
 ghost use Rattle.oc_chunks.specs.Ascending.{Each, has};
 ghost use Rattle.oc_chunks.specs.Chunks.{joined, Adds};
+ghost use Rattle.oc_chunks.specs.Cutting.{IsWide};
 ghost use Rattle.oc_chunks.specs.Pieces.{IsSound, chunks_now, present, shown, view};
 ghost use Rattle.oc_chunks.specs.Adding.{Gap, IsWithinWay, Fits, IsCutOf};
 ghost use Rattle.oc_chunks.specs.Removing.{IsHere};
@@ -26,13 +27,15 @@ enum Way {
     Anew,
 }
 
-/// Puts the entry at its place, if none is equal to it.
+/// Puts the entry at its place, if none is equal to it. No entry takes more bytes than the widest.
 pub(crate) fn add<E: Entry>(
     alloc: Global,
     pieces: &mut Vec<Piece<E>>,
+    widest: usize,
     entry: E,
 ) -> Result<(), AllocError>
-    requires { IsSound E.order pieces.old.items }
+    requires sound { IsSound E.order pieces.old.items }
+    requires wide { IsWide E.bytes widest (entry ∷ joined (flat_map chunks_now pieces.old.items)) }
     ensures sound { IsSound E.order pieces.new.items }
     ensures ok { OnOk result (Adds E.order E.bytes E.MOST entry (view E.order pieces.old.items) (view E.order pieces.new.items)) }
     ensures err { OnErr result (view E.order pieces.new.items ≡ view E.order pieces.old.items) }
@@ -42,7 +45,7 @@ pub(crate) fn add<E: Entry>(
     }
     match place_of(pieces, &entry) {
         Ok(_) => Ok(()),
-        Err(gap) => put(alloc, pieces, gap, entry),
+        Err(gap) => put(alloc, pieces, widest, gap, entry),
     }
 }
 
@@ -63,32 +66,36 @@ pub(crate) fn place_of<E: Entry>(pieces: &[Piece<E>], entry: &E) -> Result<Found
     }
 }
 
+/// Puts the entry into the gap for it. No entry takes more bytes than the widest.
 pub(crate) fn put<E: Entry>(
     alloc: Global,
     pieces: &mut Vec<Piece<E>>,
+    widest: usize,
     gap: Found,
     entry: E,
 ) -> Result<(), AllocError>
     requires sound { IsSound E.order pieces.old.items }
+    requires wide { IsWide E.bytes widest (entry ∷ joined (flat_map chunks_now pieces.old.items)) }
     requires gap { Gap E.order entry pieces.old.items gap.piece gap.at }
     ensures sound { IsSound E.order pieces.new.items }
     ensures ok { OnOk result (Adds E.order E.bytes E.MOST entry (view E.order pieces.old.items) (view E.order pieces.new.items)) }
     ensures err { OnErr result (view E.order pieces.new.items ≡ view E.order pieces.old.items) }
 {
     let is_last = gap.piece + 1 == pieces.len();
-    match way_into(&pieces[gap.piece], gap.at, is_last, &entry) {
+    match way_into(&pieces[gap.piece], gap.at, is_last, &entry, widest) {
         Way::Behind => push_alone(alloc, pieces, entry),
         Way::Within => put_within(pieces, gap, entry),
         Way::Anew => put_anew(alloc, pieces, gap, entry),
     }
 }
 
-fn way_into<E: Entry>(piece: &Piece<E>, at: usize, is_last: bool, entry: &E) -> Way
-    requires { piece.now.part.len ≤ length piece.now.part.items.items }
+fn way_into<E: Entry>(piece: &Piece<E>, at: usize, is_last: bool, entry: &E, widest: usize) -> Way
+    requires within { piece.now.part.len ≤ length piece.now.part.items.items }
+    requires wide { IsWide E.bytes widest (entry.now ∷ present piece.now.part) }
     ensures behind { result ≡ way_of.Behind → (is_last ≡ true) × (at ≡ piece.now.part.len) × (1 ≤ at) }
     ensures within { result ≡ way_of.Within → IsWithinWay E.bytes E.MOST entry.now piece.now }
 {
-    if !has_room(entries(&piece.part), entry) {
+    if !has_room(entries(&piece.part), entry, widest) {
         if is_last && at == piece.part.len && at > 0 {
             return Way::Behind;
         }

@@ -1,8 +1,9 @@
 //! The bound of a chunk that a change makes, and how entries are cut into such chunks.
 
-ghost use Rattle.std.specs.Prelude.{◌≡◌, ◌≤◌, ◌∷◌, ◌+◌, nat_le, length, sum_by, IfOk, OnOk, map};
+ghost use Rattle.std.specs.Prelude.{◌≡◌, ◌≤◌, ◌∷◌, ◌+◌, ◌*◌, nat_le, length, sum_by, IfOk, OnOk, map};
+ghost use Rattle.std.specs.Bool.{OnTrue};
 ghost use Rattle.oc_chunks.specs.Chunks.{is_within as within};
-ghost use Rattle.oc_chunks.specs.Cutting.{made_of, IsCutInto};
+ghost use Rattle.oc_chunks.specs.Cutting.{made_of, IsCutInto, IsWide};
 
 use crate::entry::Entry;
 use crate::piece::{Part, Piece, Was};
@@ -18,15 +19,40 @@ pub(crate) fn is_within<E: Entry>(entries: &[E]) -> bool
     entries.len() <= 1 || entries.len() <= E::MOST && is_light(entries, BYTES)
 }
 
-/// Whether the entries are one such chunk with this one.
-pub(crate) fn has_room<E: Entry>(entries: &[E], entry: &E) -> bool
+/// Whether the entries are one such chunk with this one. None of them takes more bytes than the widest, so most chunks
+/// are judged by their number of entries alone.
+pub(crate) fn has_room<E: Entry>(entries: &[E], entry: &E, widest: usize) -> bool
+    requires wide { IsWide E.bytes widest (entry.now ∷ entries.now) }
     ensures { result ≡ within E.bytes E.MOST (entry.now ∷ entries.now) }
 {
     if entries.is_empty() {
         return true;
     }
+    if entries.len() >= E::MOST {
+        return false;
+    }
+    are_light(entries.len(), widest) || is_light_with(entries, entry)
+}
+
+/// Whether so many entries and one more have no more than the bytes of a chunk, even if each is as wide as the widest.
+fn are_light(len: usize, widest: usize) -> bool
+    ensures { OnTrue result ((len + 1) * widest ≤ 4096) }
+{
+    if len >= BYTES {
+        return false;
+    }
+    match widest.checked_mul(len + 1) {
+        Some(most) => most <= BYTES,
+        None => false,
+    }
+}
+
+// Whether the entries and this one have no more than the bytes of a chunk.
+fn is_light_with<E: Entry>(entries: &[E], entry: &E) -> bool
+    ensures { result ≡ nat_le (sum_by E.bytes (entry.now ∷ entries.now)) 4096 }
+{
     match BYTES.checked_sub(entry.len()) {
-        Some(room) => entries.len() < E::MOST && is_light(entries, room),
+        Some(room) => is_light(entries, room),
         None => false,
     }
 }

@@ -14,6 +14,7 @@ mod reading;
 mod removing;
 mod search;
 mod settling;
+mod widths;
 mod writing;
 
 pub use entry::{At, Cut, Entry};

@@ -6,7 +6,7 @@ ghost use Rattle.std.specs.Option.{option_map};
 ghost use Rattle.std.specs.Ordering.{is_eq};
 ghost use Rattle.oc_chunks.specs.Between.{is_at, is_between};
 ghost use Rattle.oc_chunks.specs.Ascending.{entered, replaced, Each, IsAscending};
-ghost use Rattle.oc_chunks.specs.Opening.{chunk_read, written, IsList};
+ghost use Rattle.oc_chunks.specs.Opening.{chunk_read, spare_of, written, IsList};
 ghost use Rattle.oc_chunks.specs.Reading.{chunk_of};
 ghost use Rattle.oc_chunks.specs.Chunks.{IsCutFrom, IsSizedChunk, joined, left, numbers as numbers_of};
 
@@ -16,6 +16,7 @@ use crate::opening::{Written, pieces_of};
 use crate::piece::Piece;
 use crate::reading::{ChunkView, views};
 use crate::settling::{Keep, settle};
+use crate::widths::widest_of;
 use crate::writing::{marked_numbers, set_written};
 use crate::{adding, putting, removing};
 use std::alloc::{AllocError, Global};
@@ -26,11 +27,14 @@ use std::marker::Model;
 #[derive(Drop)]
 pub struct ChunkList<E: Entry> {
     pieces: Vec<Piece<E>>,
+    // No entry has taken more bytes.
+    widest: usize,
 }
 
 impl<E: Entry> Model for ChunkList<E> {
     ghost use Rattle.oc_chunks.specs.Chunks.{Chunked, chunked_code};
-    ghost use Rattle.oc_chunks.specs.Pieces.{view as list_of, IsSound};
+    ghost use Rattle.oc_chunks.specs.Lists.{IsLawful};
+    ghost use Rattle.oc_chunks.specs.Pieces.{view as list_of};
 
     ghost Value = { Chunked E };
 
@@ -38,7 +42,7 @@ impl<E: Entry> Model for ChunkList<E> {
 
     ghost view = { λ l. list_of E.order l.pieces.items };
 
-    ghost invariant = { λ l. IsSound E.order l.pieces.items };
+    ghost invariant = { λ l. IsLawful E.order E.bytes l.pieces.items l.widest };
 }
 
 impl<E: Entry> ChunkList<E> {
@@ -49,6 +53,7 @@ impl<E: Entry> ChunkList<E> {
     {
         ChunkList {
             pieces: Vec::new(alloc),
+            widest: 0,
         }
     }
 
@@ -60,8 +65,9 @@ impl<E: Entry> ChunkList<E> {
         ensures marked { IfOk result (λ r. IfSome r (λ l. l.marked ≡ map chunk_read chunks.items)) }
         ensures none { IfOk result (λ r. IfNone r (IsList E.order (map chunk_read chunks.items) → ⊥)) }
     {
+        let widest = widest_of(&chunks);
         match pieces_of(alloc, chunks)? {
-            Some(pieces) => Ok(Some(ChunkList { pieces })),
+            Some(pieces) => Ok(Some(ChunkList { pieces, widest })),
             None => Ok(None),
         }
     }
@@ -112,7 +118,9 @@ impl<E: Entry> ChunkList<E> {
         ensures marked { OnOk result (self.new.marked ≡ self.old.marked) }
         ensures err { OnErr result (self.new ≡ self.old) }
     {
-        adding::add(alloc, &mut self.pieces, entry)?;
+        let widest = self.widest.max(entry.len());
+        adding::add(alloc, &mut self.pieces, widest, entry)?;
+        self.widest = widest;
         Ok(())
     }
 
@@ -125,7 +133,9 @@ impl<E: Entry> ChunkList<E> {
         ensures marked { OnOk result (self.new.marked ≡ self.old.marked) }
         ensures err { OnErr result (self.new ≡ self.old) }
     {
-        putting::put(alloc, &mut self.pieces, entry)?;
+        let widest = self.widest.max(entry.len());
+        putting::put(alloc, &mut self.pieces, widest, entry)?;
+        self.widest = widest;
         Ok(())
     }
 
@@ -148,13 +158,14 @@ impl<E: Entry> ChunkList<E> {
     }
 
     /// What follows a commit: each chunk is written, and those without a number have got the next
-    /// of these. So is the mark. It takes no memory.
-    pub fn set_written(&mut self, numbers: &[u32])
+    /// of these. So is the mark. It gives the numbers that are left, and takes no memory.
+    pub fn set_written<'a>(&mut self, numbers: &'a [u32]) -> &'a [u32]
         ensures chunks { self.new.chunks ≡ written numbers.now self.old.chunks }
         ensures marked { self.new.marked ≡ self.new.chunks }
+        ensures rest { result.now ≡ spare_of numbers.now self.old.chunks }
     {
         settle(&mut self.pieces, Keep::Now);
-        set_written(&mut self.pieces, numbers);
+        set_written(&mut self.pieces, numbers)
     }
 
     /// The numbers of the chunks as they were at the mark, in order.

@@ -1,9 +1,10 @@
 //! An entry in place of the one that is equal to it.
 
-ghost use Rattle.std.specs.Prelude.{◌≡◌, ◌≤◌, ◌<◌, ◌-◌, length, IfOk, OnOk, OnErr};
+ghost use Rattle.std.specs.Prelude.{◌≡◌, ◌≤◌, ◌<◌, ◌-◌, ◌∷◌, flat_map, length, IfOk, OnOk, OnErr};
 ghost use Rattle.oc_chunks.specs.Adding.{IsCutOver};
-ghost use Rattle.oc_chunks.specs.Chunks.{Puts};
-ghost use Rattle.oc_chunks.specs.Pieces.{IsSound, view};
+ghost use Rattle.oc_chunks.specs.Chunks.{joined, Puts};
+ghost use Rattle.oc_chunks.specs.Cutting.{IsWide};
+ghost use Rattle.oc_chunks.specs.Pieces.{IsSound, chunks_now, view};
 ghost use Rattle.oc_chunks.specs.Removing.{IsHere};
 
 use crate::adding::{self, place_of, push_alone};
@@ -14,13 +15,16 @@ use crate::piece::{Part, Piece, entries};
 use crate::search::Found;
 use std::alloc::{AllocError, Global};
 
-/// Puts the entry at its place, in place of the one that is equal to it if there is one.
+/// Puts the entry at its place, in place of the one that is equal to it if there is one. No entry takes more
+/// bytes than the widest.
 pub(crate) fn put<E: Entry>(
     alloc: Global,
     pieces: &mut Vec<Piece<E>>,
+    widest: usize,
     entry: E,
 ) -> Result<(), AllocError>
-    requires { IsSound E.order pieces.old.items }
+    requires sound { IsSound E.order pieces.old.items }
+    requires wide { IsWide E.bytes widest (entry ∷ joined (flat_map chunks_now pieces.old.items)) }
     ensures sound { IsSound E.order pieces.new.items }
     ensures ok { OnOk result (Puts E.order E.bytes E.MOST entry (view E.order pieces.old.items) (view E.order pieces.new.items)) }
     ensures err { OnErr result (view E.order pieces.new.items ≡ view E.order pieces.old.items) }
@@ -30,7 +34,7 @@ pub(crate) fn put<E: Entry>(
     }
     match place_of(pieces, &entry) {
         Ok(found) => put_over(alloc, pieces, found, entry),
-        Err(gap) => adding::put(alloc, pieces, gap, entry),
+        Err(gap) => adding::put(alloc, pieces, widest, gap, entry),
     }
 }
 

@@ -4,7 +4,7 @@ ghost use Rattle.std.specs.Prelude.{◌≡◌, ◌++◌, false, flat_map, IfOk, 
 ghost use Rattle.std.specs.Option.{option_to_list};
 ghost use Rattle.oc_chunks.specs.Ascending.{Each};
 ghost use Rattle.oc_chunks.specs.Chunks.{numbers as numbers_of};
-ghost use Rattle.oc_chunks.specs.Opening.{number_from, spare_behind, written};
+ghost use Rattle.oc_chunks.specs.Opening.{number_from, spare_behind, spare_of, written};
 ghost use Rattle.oc_chunks.specs.Pieces.{IsSound, chunks_now, chunks_then};
 ghost use Rattle.oc_chunks.specs.Settling.{IsSettled};
 
@@ -12,18 +12,20 @@ use crate::entry::Entry;
 use crate::piece::{Piece, Was};
 use std::alloc::{AllocError, Global};
 
-/// Marks the pieces as written. Those without a number get the next of these.
-pub(crate) fn set_written<E: Entry>(pieces: &mut Vec<Piece<E>>, numbers: &[u32])
+/// Marks the pieces as written. Those without a number get the next of these. Gives the numbers that are left.
+pub(crate) fn set_written<'a, E: Entry>(pieces: &mut Vec<Piece<E>>, numbers: &'a [u32]) -> &'a [u32]
     requires sound { IsSound E.order pieces.old.items }
     requires settled { Each IsSettled pieces.old.items }
     ensures sound { IsSound E.order pieces.new.items }
     ensures chunks { flat_map chunks_now pieces.new.items ≡ written numbers.now (flat_map chunks_now pieces.old.items) }
     ensures marked { flat_map (chunks_then E.order) pieces.new.items ≡ flat_map chunks_now pieces.new.items }
+    ensures rest { result.now ≡ spare_of numbers.now (flat_map chunks_now pieces.old.items) }
 {
     let mut spare = numbers;
     for at in 0..pieces.len() {
         spare = write_one(&mut pieces[at], spare);
     }
+    spare
 }
 
 /// Marks the piece as written, and gives the numbers that are left.

@@ -1,2 +1,4 @@
+pub mod Committed
+pub mod Ordered
 pub mod Ranged
 pub mod Slots

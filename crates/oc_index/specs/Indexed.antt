@@ -1,9 +1,12 @@
 -- The lists of a store, as contracts see them.
-use Rattle.std.specs.Prelude.{◌≡◌, ℕ, Bool, true, false, ◌&&◌, ◌==◌, List, [], ◌∷◌, ◌++◌, length, flat_map, Option, Some, option_map, if◌then◌else◌}
+use Rattle.std.specs.Prelude.{◌≡◌, ℕ, ◌≤◌, map, Bool, true, false, ◌&&◌, ◌==◌, List, [], ◌∷◌, ◌++◌, length, flat_map, Option, Some, option_map, if◌then◌else◌}
 use Rattle.std.specs.List.{find}
+use Rattle.std.specs.Ordering.{nat_cmp, on}
+use Rattle.std.specs.declared.cmp.Ordering.{Ordering}
 use Rattle.oc_model.specs.declared.value.Atom.{Atom}
-use Rattle.oc_chunks.specs.Ascending.{entered, Each}
+use Rattle.oc_chunks.specs.Ascending.{entered, Each, Pairs}
 use Rattle.oc_chunks.specs.Chunks.{Chunked, joined, numbers, IsCutFrom, left}
+use Rattle.oc_chunks.specs.Opening.{spare_of, written}
 use Rattle.oc_index.specs.declared.items.ExtentItem.{ExtentItem}
 use Rattle.oc_index.specs.declared.indexes.Field.{Field}
 use Rattle.oc_index.specs.Fields.{FieldList}
@@ -88,3 +91,33 @@ marked_field f = record { id = f.id; index = marked_now f.index; is_here = f.is_
 -- what was there at the mark is there again
 abbrev pub undone_field : Field → Field
 undone_field f = record { id = f.id; index = undone f.index; is_here = f.was_there; was_there = f.was_there }
+
+-- the ids of the fields, also of those whose index is no longer there or wasn't there at the mark
+abbrev pub ids_of : List Field → List ℕ
+ids_of = map (λ f. f.id)
+
+-- the fields stand in the order of their ids
+abbrev pub AreInOrder : List Field → Type 0
+AreInOrder fs = Pairs (λ m n. m ≤ n) (ids_of fs)
+
+-- by the id of the field
+abbrev pub id_cmp : Field → Field → Ordering
+id_cmp = on (λ f. f.id) nat_cmp
+
+-- by the id of the field, of an index that is there or was there
+abbrev pub field_cmp : ℕ × FieldList → ℕ × FieldList → Ordering
+field_cmp = on (λ f. f.0) nat_cmp
+
+-- a field's index once it is written, and the mark with it: its chunks without a number have got the next of these
+abbrev pub written_list : List ℕ → FieldList → FieldList
+written_list spare f = record { base = f.base; chunks = written spare f.chunks; marked = written spare f.chunks }
+
+-- the indexes once they are written one after the other
+abbrev pub written_fields : List ℕ → List (ℕ × FieldList) → List (ℕ × FieldList)
+written_fields spare [] = []
+written_fields spare (f ∷ fs) = (f.0, written_list spare f.1) ∷ written_fields (spare_of spare f.1.chunks) fs
+
+-- the numbers that are left of these once the chunks of the indexes have got theirs
+abbrev pub spare_over : List ℕ → List (ℕ × FieldList) → List ℕ
+spare_over spare [] = spare
+spare_over spare (f ∷ fs) = spare_over (spare_of spare f.1.chunks) fs

@@ -6,7 +6,7 @@ ghost use Rattle.std.specs.Option.{option_map};
 ghost use Rattle.oc_model.specs.Maps.{is_in};
 ghost use Rattle.oc_chunks.specs.Ascending.{replaced, Each, IsAscending};
 ghost use Rattle.oc_chunks.specs.Chunks.{joined, left, numbers as segments_of, IsCutFrom, IsSizedChunk};
-ghost use Rattle.oc_chunks.specs.Opening.{chunk_read, written, IsList};
+ghost use Rattle.oc_chunks.specs.Opening.{chunk_read, spare_of, written, IsList};
 ghost use Rattle.oc_chunks.specs.Reading.{chunk_of};
 ghost use Rattle.oc_index.specs.Items.{extent_cmp};
 ghost use Rattle.oc_index.specs.Ranges.{is_numbered};
@@ -118,12 +118,14 @@ impl Extents {
     }
 
     /// What follows a commit: each chunk is written, and those without a number as a segment have
-    /// got the next of these. So is the mark. It takes no memory.
-    pub fn set_written(&mut self, numbers: &[u32])
+    /// got the next of these. So is the mark. It gives the numbers that are left, and takes no
+    /// memory.
+    pub fn set_written<'a>(&mut self, numbers: &'a [u32]) -> &'a [u32]
         ensures chunks { self.new.chunks ≡ written numbers.now self.old.chunks }
         ensures marked { self.new.marked ≡ self.new.chunks }
+        ensures rest { result.now ≡ spare_of numbers.now self.old.chunks }
     {
-        self.list.set_written(numbers);
+        self.list.set_written(numbers)
     }
 
     /// The numbers of the chunks as they were at the mark, in order.

@@ -1,31 +1,35 @@
 //! The lists of a store.
 
-ghost use Rattle.std.specs.Prelude.{◌≡◌, ◌==◌, ◌++◌, ◌∷◌, [], ℕ, not, map, filter, true, false, IsSome, IfSome, IfNone, OnOk, OnErr};
+ghost use Rattle.std.specs.Prelude.{◌≡◌, ◌≤◌, ◌==◌, ◌++◌, ◌∷◌, [], ℕ, not, map, filter, true, false, IfOk, IsSome, IfSome, IfNone, OnOk, OnErr};
 ghost use Rattle.std.specs.List.{find, flat_map, list_any};
 ghost use Rattle.std.specs.Option.{option_map};
-ghost use Rattle.oc_chunks.specs.Ascending.{replaced, Each};
+ghost use Rattle.oc_model.specs.Lists.{placed};
+ghost use Rattle.oc_chunks.specs.Ascending.{replaced, Each, Pairs};
 ghost use Rattle.oc_chunks.specs.Chunks.{joined, left, numbers as segments_of, IsCutFrom};
-ghost use Rattle.oc_index.specs.Indexed.{ended, field_at, is_of, marked_field, marked_now, now_of, then_of, undone_field, Changes, Enters, IsPlace, Leaves};
+ghost use Rattle.oc_chunks.specs.Opening.{spare_of, written};
+ghost use Rattle.oc_index.specs.Indexed.{ended, field_at, field_cmp, ids_of, is_of, marked_field, marked_now, now_of, then_of, undone, undone_field, written_fields, AreInOrder, Changes, Enters, IsPlace, Leaves};
 ghost use Rattle.oc_index.specs.Items.{extent_cmp};
 ghost use Rattle.oc_index.specs.Ranges.{is_entry, is_numbered};
 
+use crate::committing::{indexed_in, marked_numbers_in, write_in};
 use crate::extents::Extents;
 use crate::field_index::FieldIndex;
+use crate::ordering::put_in_order;
 use oc_value::{Atom, Base};
 use std::alloc::{AllocError, Global};
 use std::marker::Model;
 
 /// An index, whether it is there, and whether it was at the mark.
 #[derive(Drop)]
-struct Field {
-    id: u32,
-    index: FieldIndex,
-    is_here: bool,
-    was_there: bool,
+pub(crate) struct Field {
+    pub(crate) id: u32,
+    pub(crate) index: FieldIndex,
+    pub(crate) is_here: bool,
+    pub(crate) was_there: bool,
 }
 
-/// The list of all objects, and the index of each indexed field. It keeps what they were at the last
-/// mark.
+/// The list of all objects, and the index of each indexed field, in the order of the fields' ids. It
+/// keeps what they were at the last mark.
 #[derive(Drop)]
 pub struct Indexes {
     extents: Extents,
@@ -38,9 +42,11 @@ impl Model for Indexes {
 
     ghost Value = { StoreLists };
 
-    ghost use Rattle.oc_index.specs.Indexed.{now_of, then_of};
+    ghost use Rattle.oc_index.specs.Indexed.{now_of, then_of, AreInOrder};
 
     ghost view = { λ i. record { extents = i.extents; fields = flat_map now_of i.fields.items; marked = flat_map then_of i.fields.items } };
+
+    ghost invariant = { λ i. AreInOrder i.fields.items };
 }
 
 impl Indexes {
@@ -52,6 +58,18 @@ impl Indexes {
     {
         Indexes {
             extents: Extents::new(alloc),
+            fields: Vec::new(alloc),
+        }
+    }
+
+    /// Extents that were read, and no indexes.
+    pub fn from_extents(alloc: Global, extents: Extents) -> Indexes
+        ensures extents { result.extents ≡ extents }
+        ensures fields { result.fields ≡ [] }
+        ensures marked { result.marked ≡ [] }
+    {
+        Indexes {
+            extents,
             fields: Vec::new(alloc),
         }
     }
@@ -70,14 +88,33 @@ impl Indexes {
         field_in(self.fields.as_slice(), id)
     }
 
+    /// The fields that have an index, each with the kind of its values, in the order of their ids.
+    pub fn indexed(&self, alloc: Global) -> Result<Vec<(u32, Base)>, AllocError>
+        ensures fields { IfOk result (λ v. v.items ≡ map (λ f. (f.0, f.1.base)) self.now.fields) }
+        ensures order { Pairs (λ m n. m ≤ n) (map (λ f. f.0) self.now.fields) }
+    {
+        indexed_in(alloc, self.fields.as_slice())
+    }
+
+    /// Gives the field an index that was read. It was there at the mark, as it was at its own.
+    pub fn put_field(&mut self, id: u32, index: FieldIndex) -> Result<(), AllocError>
+        ensures extents { self.new.extents ≡ self.old.extents }
+        ensures fields { OnOk result (self.new.fields ≡ placed field_cmp (id, index) self.old.fields) }
+        ensures marked { OnOk result (self.new.marked ≡ placed field_cmp (id, undone index) self.old.marked) }
+        ensures err { OnErr result (self.new ≡ self.old) }
+    {
+        put_in_order(&mut self.fields, read(id, index))?;
+        Ok(())
+    }
+
     /// Gives the field an empty index.
     pub fn start_field(&mut self, alloc: Global, id: u32, base: Base) -> Result<(), AllocError>
         ensures extents { self.new.extents ≡ self.old.extents }
-        ensures fields { OnOk result (self.new.fields ≡ self.old.fields ++ (id, record { base = base; chunks = []; marked = [] }) ∷ []) }
+        ensures fields { OnOk result (self.new.fields ≡ placed field_cmp (id, record { base = base; chunks = []; marked = [] }) self.old.fields) }
         ensures marked { self.new.marked ≡ self.old.marked }
         ensures err { OnErr result (self.new ≡ self.old) }
     {
-        self.fields.push(started(alloc, id, base))?;
+        put_in_order(&mut self.fields, started(alloc, id, base))?;
         Ok(())
     }
 
@@ -148,6 +185,28 @@ impl Indexes {
         mark_fields(&mut self.fields);
     }
 
+    /// The numbers of the chunks as they were at the mark: those of the extents, and then those of
+    /// each index that was there.
+    pub fn marked_numbers(&self, alloc: Global) -> Result<Vec<u32>, AllocError>
+        ensures { IfOk result (λ v. v.items ≡ segments_of self.now.extents.marked ++ flat_map (λ f. segments_of f.1.chunks) self.now.marked) }
+    {
+        let numbers = self.extents.marked_numbers(alloc)?;
+        marked_numbers_in(alloc, self.fields.as_slice(), numbers)
+    }
+
+    /// What follows a commit: each chunk of each list is written, and those without a number as a
+    /// segment have got the next of these, first those of the extents, and then those of the indexes
+    /// in the order of the fields' ids. So is the mark. It takes no memory.
+    pub fn set_written(&mut self, numbers: &[u32])
+        ensures extents { (self.new.extents.chunks ≡ written numbers.now self.old.extents.chunks) × (self.new.extents.marked ≡ self.new.extents.chunks) }
+        ensures fields { self.new.fields ≡ written_fields (spare_of numbers.now self.old.extents.chunks) self.old.fields }
+        ensures marked { self.new.marked ≡ self.new.fields }
+    {
+        let rest = self.extents.set_written(numbers);
+        write_in(&mut self.fields, rest);
+        mark_fields(&mut self.fields);
+    }
+
     /// The lists as they were at the mark: which fields have an index, and the chunks with their
     /// bounds, numbers and marks of change. It takes no memory.
     pub fn undo(&mut self)
@@ -169,6 +228,18 @@ fn started(alloc: Global, id: u32, base: Base) -> Field
         index: FieldIndex::new(alloc, base),
         is_here: true,
         was_there: false,
+    }
+}
+
+/// An index that is there and was there at the mark.
+fn read(id: u32, index: FieldIndex) -> Field
+    ensures { result ≡ record { id = id; index = index; is_here = true; was_there = true } }
+{
+    Field {
+        id,
+        index,
+        is_here: true,
+        was_there: true,
     }
 }
 
@@ -210,6 +281,7 @@ fn add_in(
     requires { IsSome (field_at id (flat_map now_of fields.old.items)) }
     ensures fields { OnOk result (Changes id (Enters key number) (flat_map now_of fields.old.items) (flat_map now_of fields.new.items)) }
     ensures marked { flat_map then_of fields.new.items ≡ flat_map then_of fields.old.items }
+    ensures ids { ids_of fields.new.items ≡ ids_of fields.old.items }
     ensures err { OnErr result (flat_map now_of fields.new.items ≡ flat_map now_of fields.old.items) }
 {
     let Some(at) = place_in(fields, id) else {
@@ -223,6 +295,7 @@ fn remove_in(fields: &mut Vec<Field>, id: u32, key: &Atom, number: u32) -> bool
     ensures there { IfSome (field_at id (flat_map now_of fields.old.items)) (λ f. result ≡ list_any (is_entry key.now number) (joined f.chunks)) }
     ensures fields { Changes id (Leaves key.now number) (flat_map now_of fields.old.items) (flat_map now_of fields.new.items) }
     ensures marked { flat_map then_of fields.new.items ≡ flat_map then_of fields.old.items }
+    ensures ids { ids_of fields.new.items ≡ ids_of fields.old.items }
 {
     let Some(at) = place_in(fields, id) else {
         unreachable!()
@@ -233,6 +306,7 @@ fn remove_in(fields: &mut Vec<Field>, id: u32, key: &Atom, number: u32) -> bool
 fn end_in(fields: &mut Vec<Field>, id: u32)
     ensures fields { flat_map now_of fields.new.items ≡ filter (λ f. not (f.0 == id)) (flat_map now_of fields.old.items) }
     ensures marked { flat_map then_of fields.new.items ≡ flat_map then_of fields.old.items }
+    ensures ids { ids_of fields.new.items ≡ ids_of fields.old.items }
 {
     for at in 0..fields.len() {
         end_one(&mut fields[at], id);
@@ -248,8 +322,10 @@ fn end_one(field: &mut Field, id: u32)
 }
 
 fn mark_fields(fields: &mut Vec<Field>)
+    requires { AreInOrder fields.old.items }
     ensures fields { flat_map now_of fields.new.items ≡ map (λ f. (f.0, marked_now f.1)) (flat_map now_of fields.old.items) }
     ensures marked { flat_map then_of fields.new.items ≡ flat_map now_of fields.new.items }
+    ensures order { AreInOrder fields.new.items }
 {
     keep_here(fields);
     mark_in(fields);
@@ -277,8 +353,10 @@ fn mark_one(field: &mut Field)
 }
 
 fn undo_fields(fields: &mut Vec<Field>)
+    requires { AreInOrder fields.old.items }
     ensures fields { flat_map now_of fields.new.items ≡ flat_map then_of fields.old.items }
     ensures marked { flat_map then_of fields.new.items ≡ flat_map then_of fields.old.items }
+    ensures order { AreInOrder fields.new.items }
 {
     keep_there(fields);
     undo_in(fields);

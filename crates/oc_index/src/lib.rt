@@ -1,10 +1,12 @@
 //! The lists of a store: which objects there are, and where each value of an indexed field stands.
 #![tactic(auto)]
 
+mod committing;
 mod extents;
 mod field_index;
 mod indexes;
 mod items;
+mod ordering;
 mod place;
 mod ranges;
 

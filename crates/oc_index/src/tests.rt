@@ -295,3 +295,118 @@ fn fields_that_start_and_end_are_undone(rt: HostRuntime) -> Result<(), Fail> {
     assert_eq!(rt; indexes.extents().class_of(1), Some(2));
     Ok(())
 }
+
+// Whether the field has an index; then the object is entered with its value.
+fn enter(
+    alloc: Global,
+    indexes: &mut Indexes,
+    id: u32,
+    key: i128,
+    number: u32,
+) -> Result<bool, AllocError> {
+    if indexes.field(id).is_none() {
+        return Ok(false);
+    }
+    indexes.add(alloc, id, Atom::Int(key), number)?;
+    Ok(true)
+}
+
+// Whether the field has an index, and the entry was there and is taken out.
+fn leave(indexes: &mut Indexes, id: u32, key: i128, number: u32) -> bool {
+    indexes.field(id).is_some() && indexes.remove(id, &Atom::Int(key), number)
+}
+
+// Whether these are the objects that have this value of the field.
+fn have(
+    alloc: Global,
+    indexes: &Indexes,
+    id: u32,
+    key: i128,
+    numbers: &[u32],
+) -> Result<bool, AllocError> {
+    match indexes.field(id) {
+        Some(index) => Ok(index.equal(alloc, &Atom::Int(key))?.as_slice() == numbers),
+        None => Ok(false),
+    }
+}
+
+// The fields 7 and 5, with two objects that have the value 1 and one that has it.
+fn two_fields(alloc: Global) -> Result<Indexes, AllocError> {
+    let mut indexes = Indexes::new(alloc);
+    indexes.start_field(alloc, 7, Base::I32)?;
+    indexes.start_field(alloc, 5, Base::I32)?;
+    enter(alloc, &mut indexes, 7, 1, 3)?;
+    enter(alloc, &mut indexes, 7, 1, 2)?;
+    enter(alloc, &mut indexes, 5, 1, 9)?;
+    Ok(indexes)
+}
+
+#[test]
+fn entries_of_one_field_leave_the_others(rt: HostRuntime) -> Result<(), Fail> {
+    let alloc = rt.alloc();
+    let mut indexes = two_fields(alloc)?;
+    assert!(rt; !enter(alloc, &mut indexes, 6, 1, 1)?);
+    indexes.mark();
+    assert!(rt; leave(&mut indexes, 7, 1, 3));
+    assert!(rt; !leave(&mut indexes, 7, 1, 3));
+    assert!(rt; have(alloc, &indexes, 7, 1, &[2])?);
+    assert!(rt; have(alloc, &indexes, 5, 1, &[9])?);
+    indexes.undo();
+    assert!(rt; have(alloc, &indexes, 7, 1, &[2, 3])?);
+    Ok(())
+}
+
+// An index of one chunk of one entry, read from a segment of this number.
+fn read_index(alloc: Global, base: Base, key: Atom, number: u32) -> Result<FieldIndex, AllocError> {
+    let mut entries = Vec::new(alloc);
+    entries.push(IndexItem { key, number: 1 })?;
+    let mut chunks = Vec::new(alloc);
+    chunks.push(Written { entries, number })?;
+    let read = FieldIndex::from_chunks(alloc, base, chunks)?;
+    Ok(read.unwrap_or(FieldIndex::new(alloc, base)))
+}
+
+// The lists of a store with one object and two indexed fields, as read from the segments 3, 4 and 5.
+fn opened(alloc: Global) -> Result<Indexes, AllocError> {
+    let mut entries = Vec::new(alloc);
+    entries.push(ExtentItem {
+        number: 1,
+        class: 2,
+    })?;
+    let mut chunks = Vec::new(alloc);
+    chunks.push(Written { entries, number: 3 })?;
+    let read = Extents::from_chunks(alloc, chunks)?;
+    let mut indexes = Indexes::from_extents(alloc, read.unwrap_or(Extents::new(alloc)));
+    let texts = read_index(alloc, Base::Text, Atom::Text(None), 5)?;
+    indexes.put_field(9, texts)?;
+    let numbers = read_index(alloc, Base::I32, Atom::Int(8), 4)?;
+    indexes.put_field(4, numbers)?;
+    Ok(indexes)
+}
+
+// Whether these fields have an index.
+fn indexed(alloc: Global, indexes: &Indexes, want: &[(u32, Base)]) -> Result<bool, AllocError> {
+    Ok(indexes.indexed(alloc)?.as_slice() == want)
+}
+
+// Whether the chunks had these numbers at the mark.
+fn marked(alloc: Global, indexes: &Indexes, want: &[u32]) -> Result<bool, AllocError> {
+    Ok(indexes.marked_numbers(alloc)?.as_slice() == want)
+}
+
+#[test]
+fn lists_that_are_opened_changed_and_written(rt: HostRuntime) -> Result<(), Fail> {
+    let alloc = rt.alloc();
+    let mut indexes = opened(alloc)?;
+    indexes.start_field(alloc, 6, Base::Ref)?;
+    let fields = [(4, Base::I32), (6, Base::Ref), (9, Base::Text)];
+    assert!(rt; indexed(alloc, &indexes, &fields)?);
+    assert!(rt; marked(alloc, &indexes, &[3, 4, 5])?);
+    assert!(rt; enter(alloc, &mut indexes, 6, 1, 1)?);
+    indexes.end_field(9);
+    indexes.set_written(&[20, 21]);
+    assert!(rt; marked(alloc, &indexes, &[3, 4, 20])?);
+    indexes.undo();
+    assert!(rt; indexed(alloc, &indexes, &[(4, Base::I32), (6, Base::Ref)])?);
+    Ok(())
+}

@@ -1,8 +1,17 @@
-use Rattle.std.proofs.Common.{◌≡◌, ◌∙◌, ap, subst, refl, ◌+◌, length, arith}
+use Rattle.std.proofs.Common.{◌≡◌, ◌∙◌, ap, sym, subst, refl, ◌+◌, length, arith}
 use Rattle.std.proofs.lemmas.Bool.Decides.{nat_tests}
 use Rattle.oc_chunks.specs.Adding.{IsWithinWay}
+use Rattle.oc_chunks.specs.Cutting.{IsWide}
+use Rattle.oc_chunks.specs.Pieces.{present}
+use Rattle.oc_chunks.proofs.Wide.{wide_present}
 use Rattle.oc_chunks.proofs.Gaps.{piece_at, last_gap}
 use Rattle.oc_chunks.proofs.adding.put.Goals as goal
+
+pub way_into-requires-clause-wide : goal.way_into-requires-clause-wide
+way_into-requires-clause-wide g c =
+    let gap = c.requires.gap in
+    let p = piece_at c.args.pieces.now.items gap.before gap.piece gap.after c.args.gap.piece c.index.result.now gap.split gap.index c.index.ensures in
+    (c.requires.wide.0, subst (λ q. IsWide g.E.Entry.bytes c.args.widest (present q.part)) (sym p) (wide_present g.E.Entry.bytes c.args.widest c.args.pieces.now.items gap.before gap.piece gap.after gap.split c.requires.wide.1))
 
 pub push_alone-requires-clause-last : goal.push_alone-requires-clause-last
 push_alone-requires-clause-last g c =

@@ -1,7 +1,8 @@
-use Rattle.std.proofs.Common.{◌≡◌, ap, subst, false, flat_map}
+use Rattle.std.proofs.Common.{◌≡◌, ap, subst, refl, arith, false, flat_map}
 use Rattle.oc_chunks.specs.Ascending.{Each}
 use Rattle.oc_index.specs.Indexed.{field_at, is_of, now_of, IsPlace}
 use Rattle.oc_index.proofs.Slots.{found, none_at, changed_now, changed_then, not_some, adds_change, either_way}
+use Rattle.oc_index.proofs.Ordered.{place_lt, set_ids}
 use Rattle.oc_index.proofs.indexes.add_in.Goals as goal
 
 pub unreachable-requires : goal.unreachable-requires
@@ -23,3 +24,8 @@ returns-clause-marked c =
     let p = subst (λ l. IsPlace c.args.id l c.in-Some.at) c.deref.ensures.value c.in-Some.ensures.there in
     let q = c.index_mut.result.now in
     changed_then c.args.id c.args.fields.now.items c.in-Some.at p q c.index_mut.ensures.value c.add.new.self c.add.ensures.base (either_way c.add.result (λ is. ap (λ f. f.marked) is) c.add.ensures.marked c.add.ensures.err)
+
+pub returns-clause-ids : goal.returns-clause-ids
+returns-clause-ids c =
+    let p = subst (λ l. IsPlace c.args.id l c.in-Some.at) c.deref.ensures.value c.in-Some.ensures.there in
+    set_ids c.args.fields.now.items c.in-Some.at c.index_mut.result.now (record c.index_mut.result.now { index = c.add.new.self }) (place_lt c.args.id c.args.fields.now.items c.in-Some.at p) c.index_mut.ensures.value refl

@@ -1,6 +1,7 @@
-use Rattle.std.proofs.Common.{◌∙◌, ap, flat_map, arith}
-use Rattle.oc_index.specs.Indexed.{ended, now_of, then_of}
+use Rattle.std.proofs.Common.{◌∙◌, ap, refl, flat_map, arith}
+use Rattle.oc_index.specs.Indexed.{ended, ids_of, now_of, then_of}
 use Rattle.oc_index.proofs.Slots.{map_step, map_all, all_ended, ended_then}
+use Rattle.oc_index.proofs.Ordered.{map_ids}
 use Rattle.oc_index.proofs.indexes.end_in.Goals as goal
 
 pub loop-at-preserved : goal.loop-at-preserved
@@ -11,3 +12,6 @@ returns-clause-fields c = ap (flat_map now_of) (map_all (ended c.args.id) c.args
 
 pub returns-clause-marked : goal.returns-clause-marked
 returns-clause-marked c = ap (flat_map then_of) (map_all (ended c.args.id) c.args.fields.now.items c.loop-at.fields.items c.loop-at.at c.loop-at.invariant (omega (arith, c.loop-at-test.false, c.len-at-end.ensures ∙ c.args.fields.now.ok.0))) ∙ ended_then c.args.id c.args.fields.now.items
+
+pub returns-clause-ids : goal.returns-clause-ids
+returns-clause-ids c = ap ids_of (map_all (ended c.args.id) c.args.fields.now.items c.loop-at.fields.items c.loop-at.at c.loop-at.invariant (omega (arith, c.loop-at-test.false, c.len-at-end.ensures ∙ c.args.fields.now.ok.0))) ∙ map_ids (ended c.args.id) (λ f. refl) c.args.fields.now.items

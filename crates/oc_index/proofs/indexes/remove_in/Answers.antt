@@ -1,10 +1,11 @@
-use Rattle.std.proofs.Common.{◌≡◌, sym, subst, false, flat_map, IfSome}
+use Rattle.std.proofs.Common.{◌≡◌, sym, subst, refl, arith, false, flat_map, IfSome}
 use Rattle.std.specs.List.{list_any}
 use Rattle.oc_chunks.specs.Ascending.{Each}
 use Rattle.oc_chunks.specs.Chunks.{joined}
 use Rattle.oc_index.specs.Indexed.{field_at, is_of, now_of, IsPlace}
 use Rattle.oc_index.specs.Ranges.{is_entry}
 use Rattle.oc_index.proofs.Slots.{found, none_at, changed_now, changed_then, not_some}
+use Rattle.oc_index.proofs.Ordered.{place_lt, set_ids}
 use Rattle.oc_index.proofs.indexes.remove_in.Goals as goal
 
 pub unreachable-requires : goal.unreachable-requires
@@ -34,3 +35,8 @@ pub returns-clause-marked : goal.returns-clause-marked
 returns-clause-marked c =
     let p = subst (λ l. IsPlace c.args.id l c.in-Some.at) c.deref.ensures.value c.in-Some.ensures.there in
     changed_then c.args.id c.args.fields.now.items c.in-Some.at p c.index_mut.result.now c.index_mut.ensures.value c.remove.new.self c.remove.ensures.base c.remove.ensures.marked
+
+pub returns-clause-ids : goal.returns-clause-ids
+returns-clause-ids c =
+    let p = subst (λ l. IsPlace c.args.id l c.in-Some.at) c.deref.ensures.value c.in-Some.ensures.there in
+    set_ids c.args.fields.now.items c.in-Some.at c.index_mut.result.now (record c.index_mut.result.now { index = c.remove.new.self }) (place_lt c.args.id c.args.fields.now.items c.in-Some.at p) c.index_mut.ensures.value refl
