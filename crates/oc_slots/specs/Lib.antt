@@ -1,4 +1,11 @@
+pub mod Attaching
 pub mod Commits
 pub mod Forms
 pub mod Held
 pub mod Maps
+pub mod Pieces
+pub mod Noting
+pub mod Pointings
+pub mod Slots
+pub mod Stores
+pub mod Writing

@@ -1,10 +1,36 @@
 //! Slots of bytes in a file: two maps, the committed one and the session's, and commits that no stop can tear.
 #![tactic(auto)]
 
+mod attach_fault;
+#[cfg(test)]
+mod attach_tests;
+mod attaching;
 mod bytes;
+mod changing;
+mod fault;
+mod fetching;
+mod front;
+mod ground;
+mod judging;
 mod laws;
+mod listing;
+mod making;
+mod noting;
+mod overlay;
+mod placed;
+mod preparing;
+mod rolling_back;
+mod run;
+mod settling;
 mod slot;
+mod store;
+#[cfg(test)]
+mod tests;
+mod writing;
 
+pub use attach_fault::AttachFault;
 pub use bytes::Bytes;
+pub use fault::SpaceFault;
 pub use oc_layout::{Cell, Header, Space};
 pub use slot::{Making, Side, SlotChange, SlotId};
+pub use store::SlotStore;

@@ -1,0 +1,310 @@
+use Rattle.std.proofs.Common.{◌≡◌, ◌∙◌, inl, inr, Result, Ok, Err, ℕ, ◌+◌, ◌≤◌, List, [], ◌∷◌, ◌++◌, length, map, sym, ap, subst, refl, arith}
+use Rattle.std.specs.Prelude.{Contains, All}
+use Rattle.oc_layout.specs.declared.cells.Cell.{Cell}
+use Rattle.std.specs.Result.{OnErr}
+use Rattle.oc_layout.specs.declared.cells.Space.TheVariants.{Objects, System}
+use Rattle.oc_layout.specs.Layout.{unit_of}
+use Rattle.oc_free.specs.FreeParts.{free_at}
+use Rattle.oc_host.specs.Disk.{Disk, LeavesOnly}
+use Rattle.oc_room.specs.Rooms.{owners}
+use Rattle.oc_slots.specs.declared.placed.PlacedChange.{PlacedChange}
+use Rattle.oc_slots.specs.Maps.{Same, changed}
+use Rattle.oc_slots.specs.Slots.{changes_of, cells_of, slots_of}
+use Rattle.oc_slots.specs.Stores.{Slots, Agrees, IsWhole, IsUnchanged, fresh_of, session, committed}
+use Rattle.oc_slots.specs.Noting.{noted, IsSession}
+use Rattle.oc_slots.specs.Pieces.{IsPlanned, as_pieces, over_all}
+use Rattle.oc_slots.specs.Writing.{Before, Keeps}
+use Rattle.oc_slots.proofs.SessionChange.{whole_same}
+use Rattle.oc_slots.proofs.SessionSteps.{seen, few_fresh, IsPlaced, IsNoted, ready, whole_after, fits, frees, agrees_after, session_after}
+use Rattle.oc_slots.proofs.store.SlotStore.change.Goals as goal
+
+on_err : {T E P : Type 0} → (r : Result T E) → P → OnErr r P
+on_err (Ok x) p = tt
+on_err (Err e) p = p
+
+pub place_changes-requires-clause-few : goal.place_changes-requires-clause-few
+place_changes-requires-clause-few g_ c = few_fresh c.self.inside.header c.self.inside.pages c.self.inside.overlay c.self.inside.room c.self.inside.fresh c.self.inside.len c.self.invariant
+
+pub invariant_of-self : goal.invariant_of-self
+invariant_of-self g_ c =
+    let s = c.self.inside in
+    whole_same s.header s.pages s.overlay c.place_changes.new.overlay s.room c.place_changes.new.room s.fresh s.len c.self.invariant c.in_err-placed.ensures.fault c.in_err-placed.ensures.is_room c.in_err-placed.ensures.spare c.in_err-placed.ensures.same
+
+pub returns-in_err-placed-clause-unchanged : goal.returns-in_err-placed-clause-unchanged
+returns-in_err-placed-clause-unchanged g_ c =
+    let s = c.self.inside in
+    let er = c.in_err-placed.ensures in
+    let same : IsUnchanged (seen s.header s.pages s.overlay s.room s.len) (seen s.header s.pages c.place_changes.new.overlay c.place_changes.new.room s.len) =
+    record { header = refl; pages = refl; objects = er.same Objects; system = er.same System; room = er.fault; len = refl } in
+    on_err c.from_residual.result (inr (subst (λ v. IsUnchanged v (seen s.header s.pages c.place_changes.new.overlay c.place_changes.new.room s.len)) c.self.view_is same, refl))
+
+pub note_all-requires-clause-session : goal.note_all-requires-clause-session
+note_all-requires-clause-session g_ c =
+    let s = c.self.inside in
+    let ps = c.in_ok-placed.field-0.placed.items in
+    let planned = c.in_ok-placed.field-0.planned in
+    let pl = c.in_ok-placed.ensures in
+    let f : IsPlaced s.header s.pages s.overlay c.place_changes.new.overlay s.room c.place_changes.new.room s.fresh s.len c.args.changes.items ps planned = record {
+      whole = c.self.invariant;
+      is = c.requires.changes;
+      are = pl.changes;
+      sizes = pl.sizes;
+      opened = pl.open;
+      back = pl.back;
+      plan = subst (λ u. IsPlanned u s.len (slots_of ps) planned) c.unit-unit.ensures pl.planned;
+      spare = pl.room_spare;
+      same = pl.same;
+      unit = pl.unit;
+      limit = pl.limit;
+      is_room = pl.is_room;
+    } in
+    subst (λ l. IsSession c.place_changes.new.overlay c.place_changes.new.room s.fresh (cells_of l)) (sym c.deref.ensures.value) (ready s.header s.pages s.overlay c.place_changes.new.overlay s.room c.place_changes.new.room s.fresh s.len c.args.changes.items ps planned f)
+
+pub write_runs-requires : goal.write_runs-requires
+write_runs-requires g_ c told =
+    let s = c.self.inside in
+    let ps = c.in_ok-placed.field-0.placed.items in
+    let planned = c.in_ok-placed.field-0.planned in
+    let pl = c.in_ok-placed.ensures in
+    let f : IsPlaced s.header s.pages s.overlay c.place_changes.new.overlay s.room c.place_changes.new.room s.fresh s.len c.args.changes.items ps planned = record {
+      whole = c.self.invariant;
+      is = c.requires.changes;
+      are = pl.changes;
+      sizes = pl.sizes;
+      opened = pl.open;
+      back = pl.back;
+      plan = subst (λ u. IsPlanned u s.len (slots_of ps) planned) c.unit-unit.ensures pl.planned;
+      spare = pl.room_spare;
+      same = pl.same;
+      unit = pl.unit;
+      limit = pl.limit;
+      is_room = pl.is_room;
+    } in
+    let old = g_.H.Host.disk c.args.host.now in
+    let agrees : Agrees (seen s.header s.pages s.overlay s.room s.len) old = subst (λ v. Agrees v old) (sym c.self.view_is) (c.requires.agrees told) in
+    subst (λ l. Rattle.oc_slots.specs.Pieces.Fit (as_pieces l) old.bytes) (sym c.deref-2.ensures.value) (fits s.header s.pages s.overlay c.place_changes.new.overlay s.room c.place_changes.new.room s.fresh s.len c.args.changes.items ps planned f old agrees)
+
+pub invariant_of-self-in_err-write_runs : goal.invariant_of-self-in_err-write_runs
+invariant_of-self-in_err-write_runs g_ c =
+    let s = c.self.inside in
+    let ps = c.in_ok-placed.field-0.placed.items in
+    let planned = c.in_ok-placed.field-0.planned in
+    let pl = c.in_ok-placed.ensures in
+    let f : IsPlaced s.header s.pages s.overlay c.place_changes.new.overlay s.room c.place_changes.new.room s.fresh s.len c.args.changes.items ps planned = record {
+      whole = c.self.invariant;
+      is = c.requires.changes;
+      are = pl.changes;
+      sizes = pl.sizes;
+      opened = pl.open;
+      back = pl.back;
+      plan = subst (λ u. IsPlanned u s.len (slots_of ps) planned) c.unit-unit.ensures pl.planned;
+      spare = pl.room_spare;
+      same = pl.same;
+      unit = pl.unit;
+      limit = pl.limit;
+      is_room = pl.is_room;
+    } in
+    let no = c.note_all.ensures in
+    let same_ps = c.deref.ensures.value in
+    let g : IsNoted c.place_changes.new.overlay c.note_all.new.overlay c.place_changes.new.room c.note_all.new.room c.note_all.new.fresh ps = record {
+      session = no.session;
+      changes_are = λ space. no.changes space ∙ ap (λ l. noted l space (changes_of c.place_changes.new.overlay space)) same_ps;
+      moved = λ k. no.moved k ∙ ap (λ l. free_at c.place_changes.new.room.parts k + owners c.place_changes.new.room.unit (fresh_of c.place_changes.new.overlay) k + owners c.place_changes.new.room.unit (cells_of l) k) same_ps;
+      members = λ x there. subst (λ l. Contains (fresh_of c.place_changes.new.overlay ++ cells_of l) x) same_ps (no.members x there);
+      unit = no.unit;
+      end = no.end;
+      limit = no.limit;
+    } in
+    whole_after s.header s.pages s.overlay c.place_changes.new.overlay s.room c.place_changes.new.room s.fresh s.len c.args.changes.items ps planned f c.note_all.new.overlay c.note_all.new.room c.note_all.new.fresh g
+
+pub invariant_of-self-2 : goal.invariant_of-self-2
+invariant_of-self-2 g_ c =
+    let s = c.self.inside in
+    let ps = c.in_ok-placed.field-0.placed.items in
+    let planned = c.in_ok-placed.field-0.planned in
+    let pl = c.in_ok-placed.ensures in
+    let f : IsPlaced s.header s.pages s.overlay c.place_changes.new.overlay s.room c.place_changes.new.room s.fresh s.len c.args.changes.items ps planned = record {
+      whole = c.self.invariant;
+      is = c.requires.changes;
+      are = pl.changes;
+      sizes = pl.sizes;
+      opened = pl.open;
+      back = pl.back;
+      plan = subst (λ u. IsPlanned u s.len (slots_of ps) planned) c.unit-unit.ensures pl.planned;
+      spare = pl.room_spare;
+      same = pl.same;
+      unit = pl.unit;
+      limit = pl.limit;
+      is_room = pl.is_room;
+    } in
+    let no = c.note_all.ensures in
+    let same_ps = c.deref.ensures.value in
+    let g : IsNoted c.place_changes.new.overlay c.note_all.new.overlay c.place_changes.new.room c.note_all.new.room c.note_all.new.fresh ps = record {
+      session = no.session;
+      changes_are = λ space. no.changes space ∙ ap (λ l. noted l space (changes_of c.place_changes.new.overlay space)) same_ps;
+      moved = λ k. no.moved k ∙ ap (λ l. free_at c.place_changes.new.room.parts k + owners c.place_changes.new.room.unit (fresh_of c.place_changes.new.overlay) k + owners c.place_changes.new.room.unit (cells_of l) k) same_ps;
+      members = λ x there. subst (λ l. Contains (fresh_of c.place_changes.new.overlay ++ cells_of l) x) same_ps (no.members x there);
+      unit = no.unit;
+      end = no.end;
+      limit = no.limit;
+    } in
+    whole_after s.header s.pages s.overlay c.place_changes.new.overlay s.room c.place_changes.new.room s.fresh s.len c.args.changes.items ps planned f c.note_all.new.overlay c.note_all.new.room c.note_all.new.fresh g
+
+pub returns-in_err-write_runs-clause-any_moment : goal.returns-in_err-write_runs-clause-any_moment
+returns-in_err-write_runs-clause-any_moment g_ c told =
+    let s = c.self.inside in
+    let ps = c.in_ok-placed.field-0.placed.items in
+    let planned = c.in_ok-placed.field-0.planned in
+    let pl = c.in_ok-placed.ensures in
+    let f : IsPlaced s.header s.pages s.overlay c.place_changes.new.overlay s.room c.place_changes.new.room s.fresh s.len c.args.changes.items ps planned = record {
+      whole = c.self.invariant;
+      is = c.requires.changes;
+      are = pl.changes;
+      sizes = pl.sizes;
+      opened = pl.open;
+      back = pl.back;
+      plan = subst (λ u. IsPlanned u s.len (slots_of ps) planned) c.unit-unit.ensures pl.planned;
+      spare = pl.room_spare;
+      same = pl.same;
+      unit = pl.unit;
+      limit = pl.limit;
+      is_room = pl.is_room;
+    } in
+    let old = g_.H.Host.disk c.args.host.now in
+    let agrees : Agrees (seen s.header s.pages s.overlay s.room s.len) old = subst (λ v. Agrees v old) (sym c.self.view_is) (c.requires.agrees told) in
+    let new = g_.H.Host.disk c.write_runs.new.host in
+    let runs = c.deref-2.ensures.value in
+    subst (λ (v : Slots). LeavesOnly old new (Before v.header v.pages old)) c.self.view_is
+    (c.write_runs.ensures.any_moment told s.header s.pages.pages (subst (λ l. Rattle.oc_slots.specs.Writing.AreFree s.header s.pages.pages (as_pieces l)) (sym runs) (frees s.header s.pages s.overlay c.place_changes.new.overlay s.room c.place_changes.new.room s.fresh s.len c.args.changes.items ps planned f old agrees)) agrees.holds)
+
+pub returns-clause-any_moment : goal.returns-clause-any_moment
+returns-clause-any_moment g_ c told =
+    let s = c.self.inside in
+    let ps = c.in_ok-placed.field-0.placed.items in
+    let planned = c.in_ok-placed.field-0.planned in
+    let pl = c.in_ok-placed.ensures in
+    let f : IsPlaced s.header s.pages s.overlay c.place_changes.new.overlay s.room c.place_changes.new.room s.fresh s.len c.args.changes.items ps planned = record {
+      whole = c.self.invariant;
+      is = c.requires.changes;
+      are = pl.changes;
+      sizes = pl.sizes;
+      opened = pl.open;
+      back = pl.back;
+      plan = subst (λ u. IsPlanned u s.len (slots_of ps) planned) c.unit-unit.ensures pl.planned;
+      spare = pl.room_spare;
+      same = pl.same;
+      unit = pl.unit;
+      limit = pl.limit;
+      is_room = pl.is_room;
+    } in
+    let old = g_.H.Host.disk c.args.host.now in
+    let agrees : Agrees (seen s.header s.pages s.overlay s.room s.len) old = subst (λ v. Agrees v old) (sym c.self.view_is) (c.requires.agrees told) in
+    let new = g_.H.Host.disk c.write_runs.new.host in
+    let runs = c.deref-2.ensures.value in
+    subst (λ (v : Slots). LeavesOnly old new (Before v.header v.pages old)) c.self.view_is
+    (c.write_runs.ensures.any_moment told s.header s.pages.pages (subst (λ l. Rattle.oc_slots.specs.Writing.AreFree s.header s.pages.pages (as_pieces l)) (sym runs) (frees s.header s.pages s.overlay c.place_changes.new.overlay s.room c.place_changes.new.room s.fresh s.len c.args.changes.items ps planned f old agrees)) agrees.holds)
+
+pub returns-clause-agrees : goal.returns-clause-agrees
+returns-clause-agrees g_ c told =
+    let s = c.self.inside in
+    let ps = c.in_ok-placed.field-0.placed.items in
+    let planned = c.in_ok-placed.field-0.planned in
+    let pl = c.in_ok-placed.ensures in
+    let f : IsPlaced s.header s.pages s.overlay c.place_changes.new.overlay s.room c.place_changes.new.room s.fresh s.len c.args.changes.items ps planned = record {
+      whole = c.self.invariant;
+      is = c.requires.changes;
+      are = pl.changes;
+      sizes = pl.sizes;
+      opened = pl.open;
+      back = pl.back;
+      plan = subst (λ u. IsPlanned u s.len (slots_of ps) planned) c.unit-unit.ensures pl.planned;
+      spare = pl.room_spare;
+      same = pl.same;
+      unit = pl.unit;
+      limit = pl.limit;
+      is_room = pl.is_room;
+    } in
+    let no = c.note_all.ensures in
+    let same_ps = c.deref.ensures.value in
+    let g : IsNoted c.place_changes.new.overlay c.note_all.new.overlay c.place_changes.new.room c.note_all.new.room c.note_all.new.fresh ps = record {
+      session = no.session;
+      changes_are = λ space. no.changes space ∙ ap (λ l. noted l space (changes_of c.place_changes.new.overlay space)) same_ps;
+      moved = λ k. no.moved k ∙ ap (λ l. free_at c.place_changes.new.room.parts k + owners c.place_changes.new.room.unit (fresh_of c.place_changes.new.overlay) k + owners c.place_changes.new.room.unit (cells_of l) k) same_ps;
+      members = λ x there. subst (λ l. Contains (fresh_of c.place_changes.new.overlay ++ cells_of l) x) same_ps (no.members x there);
+      unit = no.unit;
+      end = no.end;
+      limit = no.limit;
+    } in
+    let old = g_.H.Host.disk c.args.host.now in
+    let agrees : Agrees (seen s.header s.pages s.overlay s.room s.len) old = subst (λ v. Agrees v old) (sym c.self.view_is) (c.requires.agrees told) in
+    let new = g_.H.Host.disk c.write_runs.new.host in
+    let runs = c.deref-2.ensures.value in
+    let free = subst (λ l. Rattle.oc_slots.specs.Writing.AreFree s.header s.pages.pages (as_pieces l)) (sym runs) (frees s.header s.pages s.overlay c.place_changes.new.overlay s.room c.place_changes.new.room s.fresh s.len c.args.changes.items ps planned f old agrees) in
+    agrees_after s.header s.pages s.overlay c.place_changes.new.overlay s.room c.place_changes.new.room s.fresh s.len c.args.changes.items ps planned f old agrees c.note_all.new.overlay c.note_all.new.room c.note_all.new.fresh g new (c.in_ok-write_runs.ensures.bytes told ∙ ap (λ l. over_all (as_pieces l) old.bytes) runs) (c.in_ok-write_runs.ensures.keeps told s.header s.pages.pages free)
+
+pub returns-clause-session : goal.returns-clause-session
+returns-clause-session g_ c told =
+    let s = c.self.inside in
+    let ps = c.in_ok-placed.field-0.placed.items in
+    let planned = c.in_ok-placed.field-0.planned in
+    let pl = c.in_ok-placed.ensures in
+    let f : IsPlaced s.header s.pages s.overlay c.place_changes.new.overlay s.room c.place_changes.new.room s.fresh s.len c.args.changes.items ps planned = record {
+      whole = c.self.invariant;
+      is = c.requires.changes;
+      are = pl.changes;
+      sizes = pl.sizes;
+      opened = pl.open;
+      back = pl.back;
+      plan = subst (λ u. IsPlanned u s.len (slots_of ps) planned) c.unit-unit.ensures pl.planned;
+      spare = pl.room_spare;
+      same = pl.same;
+      unit = pl.unit;
+      limit = pl.limit;
+      is_room = pl.is_room;
+    } in
+    let no = c.note_all.ensures in
+    let same_ps = c.deref.ensures.value in
+    let g : IsNoted c.place_changes.new.overlay c.note_all.new.overlay c.place_changes.new.room c.note_all.new.room c.note_all.new.fresh ps = record {
+      session = no.session;
+      changes_are = λ space. no.changes space ∙ ap (λ l. noted l space (changes_of c.place_changes.new.overlay space)) same_ps;
+      moved = λ k. no.moved k ∙ ap (λ l. free_at c.place_changes.new.room.parts k + owners c.place_changes.new.room.unit (fresh_of c.place_changes.new.overlay) k + owners c.place_changes.new.room.unit (cells_of l) k) same_ps;
+      members = λ x there. subst (λ l. Contains (fresh_of c.place_changes.new.overlay ++ cells_of l) x) same_ps (no.members x there);
+      unit = no.unit;
+      end = no.end;
+      limit = no.limit;
+    } in
+    let old = g_.H.Host.disk c.args.host.now in
+    let agrees : Agrees (seen s.header s.pages s.overlay s.room s.len) old = subst (λ v. Agrees v old) (sym c.self.view_is) (c.requires.agrees told) in
+    let new = g_.H.Host.disk c.write_runs.new.host in
+    let runs = c.deref-2.ensures.value in
+    let free = subst (λ l. Rattle.oc_slots.specs.Writing.AreFree s.header s.pages.pages (as_pieces l)) (sym runs) (frees s.header s.pages s.overlay c.place_changes.new.overlay s.room c.place_changes.new.room s.fresh s.len c.args.changes.items ps planned f old agrees) in
+    subst (λ (v : Slots). Same (session (seen s.header s.pages c.note_all.new.overlay c.note_all.new.room planned.end) new) (changed c.args.changes.items (session v old))) c.self.view_is
+    (session_after s.header s.pages s.overlay c.place_changes.new.overlay s.room c.place_changes.new.room s.fresh s.len c.args.changes.items ps planned f old agrees c.note_all.new.overlay c.note_all.new.room c.note_all.new.fresh g new (c.in_ok-write_runs.ensures.bytes told ∙ ap (λ l. over_all (as_pieces l) old.bytes) runs) (c.in_ok-write_runs.ensures.keeps told s.header s.pages.pages free))
+
+pub returns-clause-committed : goal.returns-clause-committed
+returns-clause-committed g_ c told =
+    let s = c.self.inside in
+    let ps = c.in_ok-placed.field-0.placed.items in
+    let planned = c.in_ok-placed.field-0.planned in
+    let pl = c.in_ok-placed.ensures in
+    let f : IsPlaced s.header s.pages s.overlay c.place_changes.new.overlay s.room c.place_changes.new.room s.fresh s.len c.args.changes.items ps planned = record {
+      whole = c.self.invariant;
+      is = c.requires.changes;
+      are = pl.changes;
+      sizes = pl.sizes;
+      opened = pl.open;
+      back = pl.back;
+      plan = subst (λ u. IsPlanned u s.len (slots_of ps) planned) c.unit-unit.ensures pl.planned;
+      spare = pl.room_spare;
+      same = pl.same;
+      unit = pl.unit;
+      limit = pl.limit;
+      is_room = pl.is_room;
+    } in
+    let old = g_.H.Host.disk c.args.host.now in
+    let agrees : Agrees (seen s.header s.pages s.overlay s.room s.len) old = subst (λ v. Agrees v old) (sym c.self.view_is) (c.requires.agrees told) in
+    let new = g_.H.Host.disk c.write_runs.new.host in
+    let runs = c.deref-2.ensures.value in
+    let free = subst (λ l. Rattle.oc_slots.specs.Writing.AreFree s.header s.pages.pages (as_pieces l)) (sym runs) (frees s.header s.pages s.overlay c.place_changes.new.overlay s.room c.place_changes.new.room s.fresh s.len c.args.changes.items ps planned f old agrees) in
+    subst (λ (v : Slots). Same (committed (seen s.header s.pages c.note_all.new.overlay c.note_all.new.room planned.end) new) (committed v old)) c.self.view_is
+    ((c.in_ok-write_runs.ensures.keeps told s.header s.pages.pages free).same agrees.holds)
