@@ -70,7 +70,7 @@ module _ {X : Type 0} where
   made_cut bytes most (p ∷ ps) m = each_append (IsCut bytes most) (chunks_now p) (flat_map chunks_now ps) (each_some (IsCut bytes most) (present p.part) (chunk_now p.part) (cut_chunk bytes most p.part m.0.changed (ap (is_within bytes most) (made_present bytes most p m.0) ∙ m.0.within))) (made_cut bytes most ps m.1)
 
   pub made_part_sized : (bytes : X → ℕ) (most : ℕ) → most ≤ 512 → (p : Piece X) → IsMade bytes most p → IsSizedPart p.part
-  made_part_sized bytes most le p m = record { some = m.some; within = omega (arith, m.whole); few = omega (arith, m.whole, few_within bytes most p.part.items.items le m.within) }
+  made_part_sized bytes most le p m = record { within = omega (arith, m.whole); few = omega (arith, m.whole, few_within bytes most p.part.items.items le m.within) }
 
   pub made_sized : (bytes : X → ℕ) (most : ℕ) → most ≤ 512 → (ps : List (Piece X)) → Each (IsMade bytes most) ps → Each IsSized ps
   made_sized bytes most le [] m = tt
@@ -78,10 +78,10 @@ module _ {X : Type 0} where
 
   -- ---- a part in place of a piece's
 
-  stood_was : (p q : Part X) (w : Was X) → IsSizedPart p → IsSizedWas p w → q.changed ≡ true → IsSizedWas q (was_behind p w)
-  stood_was p q Itself part was changed = (part, was, changed)
-  stood_was p q Nothing part was changed = changed
-  stood_was p q (Other old) part was changed = (was.0, was.1, changed)
+  pub stood_was : (p q : Part X) (w : Was X) → IsSizedWas p w → q.changed ≡ true → IsSizedWas q (was_behind p w)
+  stood_was p q Itself was changed = (was, changed)
+  stood_was p q Nothing was changed = changed
+  stood_was p q (Other old) was changed = (was.0, changed)
 
   pub stood_then : (cmp : X → X → Ordering) (p q : Part X) (w : Was X) → was_chunks cmp q (was_behind p w) ≡ was_chunks cmp p w
   stood_then cmp p q Itself = refl
@@ -91,4 +91,4 @@ module _ {X : Type 0} where
   pub stood_sized : (bytes : X → ℕ) (most : ℕ) → most ≤ 512 → (p m : Piece X) → IsSized p → IsMade bytes most m → IsSized (stands_in p m.part)
   stood_sized bytes most le p m s made =
       let sized = made_part_sized bytes most le m made in
-      record { part = record { some = sized.some; within = sized.within; few = sized.few }; was = stood_was p.part (stands_in p m.part).part p.was s.part s.was made.changed }
+      record { part = record { within = sized.within; few = sized.few }; was = stood_was p.part (stands_in p m.part).part p.was s.was made.changed }

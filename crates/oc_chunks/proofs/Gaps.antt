@@ -124,12 +124,12 @@ module _ {X : Type 0} where
   pub new_changed : (p : Part X) (w : Was X) → is_new w ≡ true → IsSizedWas p w → p.changed ≡ true
   new_changed p Itself new s = absurd (false≢true new)
   new_changed p Nothing new s = s
-  new_changed p (Other old) new s = s.2
+  new_changed p (Other old) new s = s.1
 
   pub new_was : (p n : Part X) (w : Was X) → is_new w ≡ true → IsSizedWas p w → n.changed ≡ true → IsSizedWas n w
   new_was p n Itself new s changed = absurd (false≢true new)
   new_was p n Nothing new s changed = changed
-  new_was p n (Other old) new s changed = (s.0, s.1, changed)
+  new_was p n (Other old) new s changed = (s.0, changed)
 
   pub new_then : (cmp : X → X → Ordering) (p n : Part X) (w : Was X) → is_new w ≡ true → was_chunks cmp n w ≡ was_chunks cmp p w
   new_then cmp p n Itself new = absurd (false≢true new)
@@ -239,7 +239,7 @@ module _ {X : Type 0} (cmp : X → X → Ordering) (o : IsTotalOrder cmp) (bytes
         let old_changed : p.part.changed ≡ true = new_changed p.part p.was way.is_new_one gap_sized.was in
         let is : set ps i n ≡ g.before ++ (n ∷ []) ++ g.after = ap (λ l. set l i n) g.split ∙ set_at g.before p g.after n i g.index ∙ sym (append_assoc g.before (n ∷ []) g.after) in
         comes (n ∷ []) (set ps i n) is (replaces (n ∷ [])
-        (record { part = record { some = omega (arith, long); within = omega (arith, long, len); few = omega (arith, few_now, len) }; was = subst (IsSizedWas n.part) (sym was) (new_was p.part n.part p.was way.is_new_one gap_sized.was (changed ∙ old_changed)) }, tt)
+        (record { part = record { within = omega (arith, long, len); few = omega (arith, few_now, len) }; was = subst (IsSizedWas n.part) (sym was) (new_was p.part n.part p.was way.is_new_one gap_sized.was (changed ∙ old_changed)) }, tt)
         (append-nil (shown n) ∙ seen)
         (append-nil (present n.part) ∙ there)
         (append-nil (chunks_then cmp n) ∙ ap (was_chunks cmp n.part) was ∙ new_then cmp p.part n.part p.was way.is_new_one)
@@ -313,14 +313,14 @@ module _ {X : Type 0} (cmp : X → X → Ordering) (n q : Piece X) (same : IsSam
 
   same_sized : IsSized q → IsSized n
   same_sized s = record {
-    part = record { some = omega (arith, s.part.some, ap length same.items); within = omega (arith, s.part.within, same.len, ap length same.items); few = omega (arith, s.part.few, same.len) };
+    part = record { within = omega (arith, s.part.within, same.len, ap length same.items); few = omega (arith, s.part.few, same.len) };
     was = subst (IsSizedWas n.part) (sym same.was) (of_was q.was s.was);
   }
     where
       of_was : (w : Was X) → IsSizedWas q.part w → IsSizedWas n.part w
-      of_was Itself few = omega (arith, few, ap length same.items)
+      of_was Itself w = record { some = omega (arith, w.some, ap length same.items); within = omega (arith, w.within, same.len, ap length same.items); few = omega (arith, w.few, ap length same.items) }
       of_was Nothing changed = same.changed ∙ changed
-      of_was (Other old) w = (w.0, w.1, same.changed ∙ w.2)
+      of_was (Other old) w = (w.0, same.changed ∙ w.1)
 
   module _ (before after : List (Piece X)) where
     with_same : {Y : Type 0} (f : Piece X → List Y) → f n ≡ f q → flat_map f (before ++ n ∷ after) ≡ flat_map f (before ++ q ∷ after)

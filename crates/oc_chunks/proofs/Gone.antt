@@ -34,10 +34,10 @@ module _ {X : Type 0} where
   kept_there Nothing n xs = take-take n (max n 1) xs (omega arith)
   kept_there (Other old) n xs = take-take n (max n 1) xs (omega arith)
 
-  kept_length : (w : Was X) (n : ℕ) (xs : List X) → n + 1 ≤ length xs → (1 ≤ length (kept_behind w n xs)) × (n ≤ length (kept_behind w n xs))
-  kept_length Itself n xs le = (omega arith, omega arith)
-  kept_length Nothing n xs le = let l = length-take-le (max n 1) xs (omega arith) in (omega arith, omega arith)
-  kept_length (Other old) n xs le = let l = length-take-le (max n 1) xs (omega arith) in (omega arith, omega arith)
+  kept_length : (w : Was X) (n : ℕ) (xs : List X) → n + 1 ≤ length xs → n ≤ length (kept_behind w n xs)
+  kept_length Itself n xs le = omega arith
+  kept_length Nothing n xs le = let l = length-take-le (max n 1) xs (omega arith) in omega arith
+  kept_length (Other old) n xs le = let l = length-take-le (max n 1) xs (omega arith) in omega arith
 
 module _ {X : Type 0} (cmp : X → X → Ordering) (o : IsTotalOrder cmp) (side : X → Ordering) (parts : (u v : X) → cmp u v ≡ Less → (side u ≡ Less) ⊎ (side v ≡ Greater)) (ps : List (Piece X)) (sound : IsSound cmp ps) (i at : ℕ) (here : IsHere side ps i at) where
   abbrev pl : Place side ps i at
@@ -188,7 +188,7 @@ module _ {X : Type 0} (cmp : X → X → Ordering) (o : IsTotalOrder cmp) (side 
             let less : nat_lt n.part.len (length n.part.items.items) ≡ true = grind (arith, nat_tests, long, len, p_sized.part.within) in
             ap (λ b. n.part.changed || b) less ∙ either n.part.changed
         of_was Nothing is s = new_one s
-        of_was (Other old) is s = new_one s.2
+        of_was (Other old) is s = new_one s.1
 
     old_chunk : chunks_now p ≡ chunk_now p.part ∷ []
     old_chunk = some_is es (chunk_now p.part) (omega (arith, es_count, in_part))
@@ -228,12 +228,14 @@ module _ {X : Type 0} (cmp : X → X → Ordering) (o : IsTotalOrder cmp) (side 
     n_sized : IsSized n
     n_sized =
         let k = kept_length p.was n.part.len (moved a p.part) (omega (arith, moved_length, len, p_sized.part.within)) in
-        record { part = record { some = omega (arith, k.0, ap length items); within = omega (arith, k.1, ap length items); few = omega (arith, len, p_sized.part.few) }; was = subst (IsSizedWas n.part) (sym was) (of_was p.was refl p_sized.was) }
+        record { part = record { within = omega (arith, k, ap length items); few = omega (arith, len, p_sized.part.few) }; was = subst (IsSizedWas n.part) (sym was) (of_was p.was refl p_sized.was) }
       where
         of_was : (w : Was X) → p.was ≡ w → IsSizedWas p.part w → IsSizedWas n.part w
-        of_was Itself is few = omega (arith, few, ap length items, ap (λ w. length (kept_behind w n.part.len (moved a p.part))) is, moved_length)
+        of_was Itself is w =
+            let same : length n.part.items.items ≡ length p.part.items.items = ap length items ∙ ap (λ w. length (kept_behind w n.part.len (moved a p.part))) is ∙ moved_length in
+            record { some = omega (arith, w.some, same); within = omega (arith, w.within, len, same); few = omega (arith, w.few, same) }
         of_was Nothing is s = changed ∙ s
-        of_was (Other old) is s = (s.0, s.1, changed ∙ s.2)
+        of_was (Other old) is s = (s.0, changed ∙ s.1)
 
     pub sound_left : IsSound cmp (set ps i n)
     sound_left = record {

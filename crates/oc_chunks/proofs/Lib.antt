@@ -3,9 +3,11 @@ pub mod Eaches
 pub mod Filling
 pub mod Gaps
 pub mod Gone
+pub mod Joined
 pub mod Leaving
 pub mod Located
 pub mod Looking
+pub mod Merged
 pub mod Opened
 pub mod Puts
 pub mod Read

@@ -78,7 +78,7 @@ module _ {X : Type 0} where
 
   pub settled_sized : (ps : List (Piece X)) → Each IsSettled ps → Each IsSized ps
   settled_sized [] s = tt
-  settled_sized (p ∷ ps) s = (record { part = record { some = omega (arith, s.0.some, s.0.whole); within = omega (arith, s.0.whole); few = s.0.few }; was = subst (IsSizedWas p.part) (sym s.0.was) (omega (arith, s.0.few, s.0.whole)) }, settled_sized ps s.1)
+  settled_sized (p ∷ ps) s = (record { part = record { within = omega (arith, s.0.whole); few = s.0.few }; was = subst (IsSizedWas p.part) (sym s.0.was) (record { some = omega (arith, s.0.some, s.0.whole); within = omega (arith, s.0.whole); few = omega (arith, s.0.few, s.0.whole) }) }, settled_sized ps s.1)
 
   entries_across : (R : X → X → Type 0) (es : List X) (ps : List (Piece X)) → Each (λ x. Each (R x) (flat_map shown ps)) es → Each (λ x. Each (R x) (entries_of ps)) es
   entries_across R es ps a = each_more (λ x. Each (R x) (flat_map shown ps)) (λ x. Each (R x) (entries_of ps)) es (λ x. each_entry (R x) ps) a

@@ -10,4 +10,6 @@ pub mod Chunks
 pub mod Cutting
 pub mod Editing
 pub mod Pieces
+pub mod Joining
 pub mod Lists
+pub mod Merging

@@ -1,5 +1,5 @@
 -- How a list in chunks is kept: a chunk that changed is kept beside what it was at the mark.
-use Rattle.std.specs.Prelude.{◌≡◌, ℕ, ◌≤◌, Bool, true, false, not, ◌||◌, nat_lt, max, List, [], ◌∷◌, ◌++◌, take, drop, length, flat_map}
+use Rattle.std.specs.Prelude.{◌≡◌, ℕ, ◌+◌, ◌≤◌, slice_index_or, Bool, true, false, not, ◌||◌, nat_lt, max, List, [], ◌∷◌, ◌++◌, take, drop, length, flat_map}
 use Rattle.std.specs.Ordering.{is_gt, is_eq}
 use Rattle.std.specs.declared.cmp.Ordering.{Ordering}
 use Rattle.std.specs.declared.cmp.Ordering.TheVariants.{Less, Greater}
@@ -20,7 +20,8 @@ module _ {X : Type 0} where
   abbrev pub gone : Part X → List X
   gone p = drop p.len p.items.items
 
-  -- what a search over the pieces sees: the entries that are there, or one that went if there are none
+  -- what a search over the pieces sees: the entries that are there, or one that went if there are none. A piece whose entries
+  -- another one has taken shows nothing
   abbrev pub shown : Piece X → List X
   shown p = take (max p.part.len 1) p.part.items.items
 
@@ -32,17 +33,22 @@ module _ {X : Type 0} where
   abbrev pub chunks_now : Piece X → List (Chunk X)
   chunks_now p = nonempty (chunk_now p.part)
 
-  -- a part has an entry, there or gone, and a chunk's number of them
+  -- a part has no more entries than a chunk
   pub record IsSizedPart (p : Part X) : Type 0 where
-    pub some : 1 ≤ length p.items.items
     pub within : p.len ≤ length p.items.items
     pub few : p.len ≤ 512
 
+  -- the entries of the part, there and gone, are those of a chunk
+  pub record IsWhole (p : Part X) : Type 0 where
+    pub some : 1 ≤ length p.items.items
+    pub within : p.len ≤ length p.items.items
+    pub few : length p.items.items ≤ 512
+
   -- what a piece was is a chunk, and a piece that is no longer what it was has changed
   abbrev pub IsSizedWas : Part X → Was X → Type 0
-  IsSizedWas p Itself = length p.items.items ≤ 512
+  IsSizedWas p Itself = IsWhole p
   IsSizedWas p Nothing = p.changed ≡ true
-  IsSizedWas p (Other old) = IsSizedPart old × (length old.items.items ≤ 512) × (p.changed ≡ true)
+  IsSizedWas p (Other old) = IsWhole old × (p.changed ≡ true)
 
   -- a piece of which both sides have the sizes of chunks
   pub record IsSized (p : Piece X) : Type 0 where
@@ -67,6 +73,14 @@ module _ {X : Type 0} where
   -- the first entry of the piece, there or gone, is no later than the place
   abbrev pub begins : (X → Ordering) → Piece X → Bool
   begins side p = begins_in side p.part.items.items
+
+  -- the piece begins later, or has no entry
+  abbrev pub IsLater : (X → Ordering) → Piece X → Type 0
+  IsLater side p = begins side p ≡ false
+
+  -- the last of the first n pieces begins no later than the place
+  abbrev pub IsBegun : (X → Ordering) → List (Piece X) → ℕ → Type 0
+  IsBegun side ps n = (i : ℕ) (d : Piece X) → i + 1 ≡ n → begins side (slice_index_or ps i d) ≡ true
 
   -- the place: the piece at i, and there the entries from at on lie behind it
   pub record Place (side : X → Ordering) (ps : List (Piece X)) (i at : ℕ) : Type 0 where

@@ -1,9 +1,10 @@
 //! The bound of a chunk that a change makes, and how entries are cut into such chunks.
 
-ghost use Rattle.std.specs.Prelude.{◌≡◌, ◌≤◌, ◌∷◌, ◌+◌, ◌*◌, nat_le, length, sum_by, IfOk, OnOk, map};
+ghost use Rattle.std.specs.Prelude.{◌≡◌, ◌≤◌, ◌<◌, ◌∷◌, ◌+◌, ◌*◌, ◌++◌, nat_le, length, sum_by, IfOk, IfSome, IfNone, OnOk, map};
 ghost use Rattle.std.specs.Bool.{OnTrue};
 ghost use Rattle.oc_chunks.specs.Chunks.{is_within as within};
 ghost use Rattle.oc_chunks.specs.Cutting.{made_of, IsCutInto, IsWide};
+ghost use Rattle.oc_chunks.specs.Joining.{is_small as small};
 
 use crate::entry::Entry;
 use crate::piece::{Part, Piece, Was};
@@ -61,14 +62,34 @@ fn is_light_with<E: Entry>(entries: &[E], entry: &E) -> bool
 fn is_light<E: Entry>(entries: &[E], room: usize) -> bool
     ensures { result ≡ nat_le (sum_by E.bytes entries.now) room }
 {
+    room_behind(entries, room).is_some()
+}
+
+/// What is left of so many bytes behind those of the entries.
+fn room_behind<E: Entry>(entries: &[E], room: usize) -> Option<usize>
+    ensures left { IfSome result (λ left. sum_by E.bytes entries.now + left ≡ room) }
+    ensures none { IfNone result (room < sum_by E.bytes entries.now) }
+{
     let mut left = room;
     for entry in entries {
-        match left.checked_sub(entry.len()) {
-            Some(rest) => left = rest,
-            None => return false,
-        }
+        left = left.checked_sub(entry.len())?;
     }
-    true
+    Some(left)
+}
+
+/// Whether all these entries are at most half of a chunk that a change makes.
+pub(crate) fn is_small<E: Entry>(first: &[E], second: &[E]) -> bool
+    requires first { length first.now ≤ 512 }
+    requires second { length second.now ≤ 512 }
+    ensures { result ≡ small E.bytes E.MOST (first.now ++ second.now) }
+{
+    if 2 * (first.len() + second.len()) > E::MOST {
+        return false;
+    }
+    match room_behind(first, BYTES / 2) {
+        Some(room) => is_light(second, room),
+        None => false,
+    }
 }
 
 /// A new chunk of these entries.

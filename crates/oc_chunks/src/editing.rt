@@ -10,7 +10,7 @@ use std::alloc::AllocError;
 use std::mem;
 
 /// Puts the new part in place of the piece, which keeps what it was at the mark. The number stays where the piece had an entry.
-fn stand_in<E: Drop>(piece: &mut Piece<E>, part: Part<E>)
+pub(crate) fn stand_in<E: Drop>(piece: &mut Piece<E>, part: Part<E>)
     ensures { piece.new ≡ stands_in piece.old part }
 {
     let number = if piece.part.len == 0 {

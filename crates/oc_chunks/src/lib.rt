@@ -6,6 +6,7 @@ mod between;
 mod cutting;
 mod editing;
 mod entry;
+mod joining;
 mod list;
 mod opening;
 mod piece;

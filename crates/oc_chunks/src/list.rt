@@ -7,11 +7,13 @@ ghost use Rattle.std.specs.Ordering.{is_eq};
 ghost use Rattle.oc_chunks.specs.Between.{is_at, is_between};
 ghost use Rattle.oc_chunks.specs.Ascending.{entered, replaced, Each, IsAscending};
 ghost use Rattle.oc_chunks.specs.Opening.{chunk_read, spare_of, written, IsList};
+ghost use Rattle.oc_chunks.specs.Joining.{Joins, NoneSmall};
 ghost use Rattle.oc_chunks.specs.Reading.{chunk_of};
 ghost use Rattle.oc_chunks.specs.Chunks.{IsCutFrom, IsSizedChunk, joined, left, numbers as numbers_of};
 
 use crate::between::{self, len_of, slices, span_between};
 use crate::entry::{Cut, Entry};
+use crate::joining::join_small;
 use crate::opening::{Written, pieces_of};
 use crate::piece::Piece;
 use crate::reading::{ChunkView, views};
@@ -147,6 +149,18 @@ impl<E: Entry> ChunkList<E> {
         ensures marked { self.new.marked ≡ self.old.marked }
     {
         removing::remove(&mut self.pieces, cut)
+    }
+
+    /// Joins neighbours of which one has changed and that together have at most half of the bound.
+    /// What is joined has the number of the first, and has changed. Without memory some may be
+    /// joined and others not yet.
+    pub fn join_small(&mut self, alloc: Global) -> Result<(), AllocError>
+        ensures entries { joined self.new.chunks ≡ joined self.old.chunks }
+        ensures chunks { Joins E.bytes E.MOST self.old.chunks self.new.chunks }
+        ensures marked { self.new.marked ≡ self.old.marked }
+        ensures none { OnOk result (NoneSmall E.bytes E.MOST self.new.chunks) }
+    {
+        join_small(alloc, &mut self.pieces)
     }
 
     /// The list as it is becomes what `undo` gives back. It takes no memory.

@@ -1,6 +1,6 @@
 //! A chunk, and what it was at the mark.
 
-ghost use Rattle.std.specs.Prelude.{◌≡◌, ◌≤◌, ◌<◌, ◌+◌, ◌++◌, ◌∷◌, take, drop, length};
+ghost use Rattle.std.specs.Prelude.{◌≡◌, ◌≤◌, ◌<◌, ◌+◌, ◌++◌, ◌∷◌, ◌||◌, nat_lt, take, drop, length};
 ghost use Rattle.oc_chunks.specs.Pieces.{present, gone};
 
 /// Entries in order, and behind them those that went since the mark, the latest first.
@@ -33,6 +33,13 @@ pub(crate) fn entries<E>(part: &Part<E>) -> &[E]
     ensures { result.now ≡ present part.now }
 {
     &part.items[..part.len]
+}
+
+/// Whether the part changed since its chunk was written.
+pub(crate) fn is_changed<E>(part: &Part<E>) -> bool
+    ensures { result ≡ (part.now.changed || nat_lt part.now.len (length part.now.items.items)) }
+{
+    part.changed || part.len < part.items.len()
 }
 
 /// Moves the entry behind those that are there.

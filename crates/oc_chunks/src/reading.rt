@@ -5,7 +5,7 @@ ghost use Rattle.oc_chunks.specs.Pieces.{IsSound, chunk_now, chunks_now};
 ghost use Rattle.oc_chunks.specs.Reading.{chunk_of};
 
 use crate::entry::Entry;
-use crate::piece::{Piece, entries};
+use crate::piece::{Piece, entries, is_changed};
 use std::alloc::{AllocError, Global};
 
 /// A chunk of a list: its entries, its number as a segment if it has one, and whether it changed
@@ -54,6 +54,6 @@ fn view_of<'a, E>(piece: &'a Piece<E>) -> ChunkView<'a, E>
     ChunkView {
         entries: entries(part),
         number: part.number,
-        changed: part.changed || part.len < part.items.len(),
+        changed: is_changed(part),
     }
 }

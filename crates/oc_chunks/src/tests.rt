@@ -110,9 +110,119 @@ fn list_of(alloc: Global, chunks: &[&[u32]]) -> Result<Option<ChunkList<Key>>, A
             entries.push(Key { at: *at })?;
         }
         read.push(Written { entries, number })?;
-        number = 8;
+        number = number.saturating_add(1);
     }
     ChunkList::of(alloc, read)
+}
+
+// Whether the list has just the keys that were read and not removed.
+fn has_rest(list: &ChunkList<Key>, chunks: &[&[u32]], removed: &[u32]) -> bool {
+    for keys in chunks {
+        for at in *keys {
+            let key = Key { at: *at };
+            let is_gone = removed.iter().any(|other| *other == *at);
+            if list.find(&At { entry: &key }).is_some() == is_gone {
+                return false;
+            }
+        }
+    }
+    true
+}
+
+#[test]
+fn small_neighbours_are_joined_and_undone(rt: HostRuntime) -> Result<(), Fail> {
+    // What is read, what is removed, and what it comes to: two entries are half of a chunk's bytes.
+    let table: [(&[&[u32]], &[u32], &[(usize, u32, bool)], &[u32]); 5] = [
+        (
+            &[&[10], &[20], &[30]],
+            &[],
+            &[(1, 10, false), (1, 20, false), (1, 30, false)],
+            &[7, 8, 9],
+        ),
+        (
+            &[&[10, 11], &[20], &[30]],
+            &[11],
+            &[(2, 10, true), (1, 30, false)],
+            &[7, 9],
+        ),
+        (
+            &[&[10], &[20], &[30, 31]],
+            &[31],
+            &[(1, 10, false), (2, 20, true)],
+            &[7, 8],
+        ),
+        (
+            &[&[10, 11], &[20], &[30, 31], &[40]],
+            &[11, 20, 31],
+            &[(2, 10, true), (1, 40, false)],
+            &[7, 10],
+        ),
+        (
+            &[&[10, 11], &[20, 21, 22]],
+            &[11],
+            &[(1, 10, true), (3, 20, false)],
+            &[7, 8],
+        ),
+    ];
+    for (chunks, removed, want, numbers) in table {
+        let mut list = list_of(rt.alloc(), chunks)?.unwrap_or(ChunkList::new(rt.alloc()));
+        for at in removed {
+            list.remove(&At {
+                entry: &Key { at: *at },
+            });
+        }
+        list.join_small(rt.alloc())?;
+        list.join_small(rt.alloc())?;
+        assert!(rt; is_like(rt.alloc(), &list, want)?);
+        assert!(rt; has_rest(&list, chunks, removed));
+        list.undo();
+        assert!(rt; has_rest(&list, chunks, &[]));
+        assert_eq!(rt; list.chunks(rt.alloc())?.len(), chunks.len());
+        for at in removed {
+            list.remove(&At {
+                entry: &Key { at: *at },
+            });
+        }
+        list.join_small(rt.alloc())?;
+        list.set_written(&[]);
+        assert_eq!(rt; list.marked_numbers(rt.alloc())?.as_slice(), numbers);
+    }
+    Ok(())
+}
+
+#[test]
+fn a_list_that_was_joined_goes_on(rt: HostRuntime) -> Result<(), Fail> {
+    let chunks: &[&[u32]] = &[&[10, 11], &[20], &[30, 31], &[40, 50, 60]];
+    let mut list = list_of(rt.alloc(), chunks)?.unwrap_or(ChunkList::new(rt.alloc()));
+    for at in [11, 20, 31] {
+        list.remove(&At { entry: &Key { at } });
+    }
+    list.join_small(rt.alloc())?;
+    assert!(rt; is_like(rt.alloc(), &list, &[(2, 10, true), (3, 40, false)])?);
+    for at in [5, 20, 35] {
+        list.add(rt.alloc(), Key { at })?;
+    }
+    assert!(rt;
+        is_like(
+            rt.alloc(),
+            &list,
+            &[(2, 5, true), (3, 20, true), (3, 40, false)]
+        )?
+    );
+    for at in [5, 10, 20, 35, 30] {
+        assert!(rt; list.remove(&At { entry: &Key { at } }));
+    }
+    list.add(rt.alloc(), Key { at: 35 })?;
+    assert!(rt; is_like(rt.alloc(), &list, &[(1, 35, true), (3, 40, false)])?);
+    list.undo();
+    let was = [
+        (2, 10, false),
+        (1, 20, false),
+        (2, 30, false),
+        (3, 40, false),
+    ];
+    assert!(rt; is_like(rt.alloc(), &list, &was)?);
+    Ok(())
 }
 
 #[test]

@@ -1,4 +1,5 @@
 pub mod Committed
+pub mod FieldsJoined
 pub mod Ordered
 pub mod Ranged
 pub mod Slots

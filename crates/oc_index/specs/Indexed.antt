@@ -6,6 +6,7 @@ use Rattle.std.specs.declared.cmp.Ordering.{Ordering}
 use Rattle.oc_model.specs.declared.value.Atom.{Atom}
 use Rattle.oc_chunks.specs.Ascending.{entered, Each, Pairs}
 use Rattle.oc_chunks.specs.Chunks.{Chunked, joined, numbers, IsCutFrom, left}
+use Rattle.oc_chunks.specs.Joining.{Joins, NoneSmall}
 use Rattle.oc_chunks.specs.Opening.{spare_of, written}
 use Rattle.oc_index.specs.declared.items.ExtentItem.{ExtentItem}
 use Rattle.oc_index.specs.declared.indexes.Field.{Field}
@@ -59,6 +60,24 @@ pub record Leaves (key : Atom) (number : ℕ) (old new : FieldList) : Type 0 whe
   pub base : new.base ≡ old.base
   pub chunks : new.chunks ≡ flat_map (left (is_entry key number)) old.chunks
   pub marked : new.marked ≡ old.marked
+
+-- some neighbours of the index's chunks are joined
+pub record JoinsList (old new : FieldList) : Type 0 where
+  pub base : new.base ≡ old.base
+  pub entries : joined new.chunks ≡ joined old.chunks
+  pub chunks : Joins index_bytes 128 old.chunks new.chunks
+  pub marked : new.marked ≡ old.marked
+
+-- the same fields, of each of whose indexes some neighbours are joined
+abbrev pub JoinsFields : List (ℕ × FieldList) → List (ℕ × FieldList) → Type 0
+JoinsFields [] [] = Unit {0}
+JoinsFields [] (g ∷ gs) = ⊥
+JoinsFields (f ∷ fs) [] = ⊥
+JoinsFields (f ∷ fs) (g ∷ gs) = (g.0 ≡ f.0) × JoinsList f.1 g.1 × JoinsFields fs gs
+
+-- no two neighbours of the index's chunks are to be joined
+abbrev pub IsJoined : ℕ × FieldList → Type 0
+IsJoined f = NoneSmall index_bytes 128 f.1.chunks
 
 -- the extents, and the index of each indexed field with the field's id, as they are and as they were at the mark
 pub record StoreLists : Type 0 where

@@ -1,8 +1,9 @@
 //! What a commit asks of the indexes of fields, and what it leaves of them.
 
 ghost use Rattle.std.specs.Prelude.{◌≡◌, ◌++◌, map, flat_map, IfOk, OnOk};
+ghost use Rattle.oc_chunks.specs.Ascending.{Each};
 ghost use Rattle.oc_chunks.specs.Chunks.{numbers as segments_of};
-ghost use Rattle.oc_index.specs.Indexed.{ids_of, now_of, spare_over, then_of, written_fields};
+ghost use Rattle.oc_index.specs.Indexed.{ids_of, now_of, spare_over, then_of, written_fields, IsJoined, JoinsFields};
 
 use crate::indexes::Field;
 use oc_value::Base;
@@ -50,6 +51,32 @@ fn push_marked(alloc: Global, numbers: &mut Vec<u32>, field: &Field) -> Result<(
         numbers.append(&mut marked)?;
     }
     Ok(())
+}
+
+/// Joins small neighbours of each index that is there.
+pub(crate) fn join_in(alloc: Global, fields: &mut Vec<Field>) -> Result<(), AllocError>
+    ensures fields { JoinsFields (flat_map now_of fields.old.items) (flat_map now_of fields.new.items) }
+    ensures marked { flat_map then_of fields.new.items ≡ flat_map then_of fields.old.items }
+    ensures ids { ids_of fields.new.items ≡ ids_of fields.old.items }
+    ensures none { OnOk result (Each IsJoined (flat_map now_of fields.new.items)) }
+{
+    for at in 0..fields.len() {
+        join_one(alloc, &mut fields[at])?;
+    }
+    Ok(())
+}
+
+/// Joins small neighbours if the index is there.
+fn join_one(alloc: Global, field: &mut Field) -> Result<(), AllocError>
+    ensures now { JoinsFields (now_of field.old) (now_of field.new) }
+    ensures then { then_of field.new ≡ then_of field.old }
+    ensures id { field.new.id ≡ field.old.id }
+    ensures none { OnOk result (Each IsJoined (now_of field.new)) }
+{
+    if !field.is_here {
+        return Ok(());
+    }
+    field.index.join_small(alloc)
 }
 
 /// Marks the chunks of each index that is there as written. Those without a number get the next of these.

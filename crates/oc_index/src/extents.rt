@@ -6,6 +6,7 @@ ghost use Rattle.std.specs.Option.{option_map};
 ghost use Rattle.oc_model.specs.Maps.{is_in};
 ghost use Rattle.oc_chunks.specs.Ascending.{replaced, Each, IsAscending};
 ghost use Rattle.oc_chunks.specs.Chunks.{joined, left, numbers as segments_of, IsCutFrom, IsSizedChunk};
+ghost use Rattle.oc_chunks.specs.Joining.{Joins, NoneSmall};
 ghost use Rattle.oc_chunks.specs.Opening.{chunk_read, spare_of, written, IsList};
 ghost use Rattle.oc_chunks.specs.Reading.{chunk_of};
 ghost use Rattle.oc_index.specs.Items.{extent_cmp};
@@ -115,6 +116,18 @@ impl Extents {
             push_of(&mut numbers, chunk.entries, classes)?;
         }
         Ok(numbers)
+    }
+
+    /// Joins neighbours of which one has changed and that together have at most half of the bound.
+    /// What is joined has the number of the first, and has changed. Without memory some may be
+    /// joined and others not yet.
+    pub fn join_small(&mut self, alloc: Global) -> Result<(), AllocError>
+        ensures entries { joined self.new.chunks ≡ joined self.old.chunks }
+        ensures chunks { Joins (λ _. 8) 512 self.old.chunks self.new.chunks }
+        ensures marked { self.new.marked ≡ self.old.marked }
+        ensures none { OnOk result (NoneSmall (λ _. 8) 512 self.new.chunks) }
+    {
+        self.list.join_small(alloc)
     }
 
     /// What follows a commit: each chunk is written, and those without a number as a segment have

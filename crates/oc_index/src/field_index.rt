@@ -4,6 +4,7 @@ ghost use Rattle.std.specs.Prelude.{◌≡◌, ◌++◌, ◌^◌, ◌-◌, [], m
 ghost use Rattle.std.specs.List.{flat_map, list_any};
 ghost use Rattle.oc_chunks.specs.Ascending.{entered, Each, IsAscending};
 ghost use Rattle.oc_chunks.specs.Chunks.{joined, left, numbers as segments_of, IsCutFrom, IsSizedChunk};
+ghost use Rattle.oc_chunks.specs.Joining.{Joins, NoneSmall};
 ghost use Rattle.oc_chunks.specs.Opening.{chunk_read, spare_of, written, IsList};
 ghost use Rattle.oc_chunks.specs.Reading.{chunk_of};
 ghost use Rattle.oc_index.specs.Items.{index_bytes, index_cmp};
@@ -128,6 +129,19 @@ impl FieldIndex {
         ensures { result ≡ min (length (filter (is_in_range low.now high.now) (joined self.now.chunks))) (2 ^ 64 - 1) }
     {
         self.list.count(&low_edge(low), &high_edge(high))
+    }
+
+    /// Joins neighbours of which one has changed and that together have at most half of the bound.
+    /// What is joined has the number of the first, and has changed. Without memory some may be
+    /// joined and others not yet.
+    pub fn join_small(&mut self, alloc: Global) -> Result<(), AllocError>
+        ensures base { self.new.base ≡ self.old.base }
+        ensures entries { joined self.new.chunks ≡ joined self.old.chunks }
+        ensures chunks { Joins index_bytes 128 self.old.chunks self.new.chunks }
+        ensures marked { self.new.marked ≡ self.old.marked }
+        ensures none { OnOk result (NoneSmall index_bytes 128 self.new.chunks) }
+    {
+        self.list.join_small(alloc)
     }
 
     /// What follows a commit: each chunk is written, and those without a number as a segment have

@@ -6,12 +6,13 @@ ghost use Rattle.std.specs.Option.{option_map};
 ghost use Rattle.oc_model.specs.Lists.{placed};
 ghost use Rattle.oc_chunks.specs.Ascending.{replaced, Each, Pairs};
 ghost use Rattle.oc_chunks.specs.Chunks.{joined, left, numbers as segments_of, IsCutFrom};
+ghost use Rattle.oc_chunks.specs.Joining.{Joins, NoneSmall};
 ghost use Rattle.oc_chunks.specs.Opening.{spare_of, written};
-ghost use Rattle.oc_index.specs.Indexed.{ended, field_at, field_cmp, ids_of, is_of, marked_field, marked_now, now_of, then_of, undone, undone_field, written_fields, AreInOrder, Changes, Enters, IsPlace, Leaves};
+ghost use Rattle.oc_index.specs.Indexed.{ended, field_at, field_cmp, ids_of, is_of, marked_field, marked_now, now_of, then_of, undone, undone_field, written_fields, AreInOrder, Changes, Enters, IsJoined, IsPlace, JoinsFields, Leaves};
 ghost use Rattle.oc_index.specs.Items.{extent_cmp};
 ghost use Rattle.oc_index.specs.Ranges.{is_entry, is_numbered};
 
-use crate::committing::{indexed_in, marked_numbers_in, write_in};
+use crate::committing::{indexed_in, join_in, marked_numbers_in, write_in};
 use crate::extents::Extents;
 use crate::field_index::FieldIndex;
 use crate::ordering::put_in_order;
@@ -183,6 +184,23 @@ impl Indexes {
     {
         self.extents.mark();
         mark_fields(&mut self.fields);
+    }
+
+    /// Before a commit: joins neighbours, of each list, of which one has changed and that together
+    /// have at most half of the bound. What is joined has the number of the first, and has changed.
+    /// Without memory some may be joined and others not yet.
+    pub fn join_small(&mut self, alloc: Global) -> Result<(), AllocError>
+        ensures entries { joined self.new.extents.chunks ≡ joined self.old.extents.chunks }
+        ensures chunks { Joins (λ _. 8) 512 self.old.extents.chunks self.new.extents.chunks }
+        ensures extents_marked { self.new.extents.marked ≡ self.old.extents.marked }
+        ensures fields { JoinsFields self.old.fields self.new.fields }
+        ensures marked { self.new.marked ≡ self.old.marked }
+        ensures none { OnOk result (NoneSmall (λ _. 8) 512 self.new.extents.chunks) }
+        ensures none_in_fields { OnOk result (Each IsJoined self.new.fields) }
+    {
+        self.extents.join_small(alloc)?;
+        join_in(alloc, &mut self.fields)?;
+        Ok(())
     }
 
     /// The numbers of the chunks as they were at the mark: those of the extents, and then those of

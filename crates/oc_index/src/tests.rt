@@ -410,3 +410,46 @@ fn lists_that_are_opened_changed_and_written(rt: HostRuntime) -> Result<(), Fail
     assert!(rt; indexed(alloc, &indexes, &[(4, Base::I32), (6, Base::Ref)])?);
     Ok(())
 }
+
+// Whether the extents and the index of field 7 have chunks of these lengths.
+fn are_long(
+    alloc: Global,
+    indexes: &Indexes,
+    objects: &[usize],
+    entries: &[usize],
+) -> Result<bool, AllocError> {
+    let mut lens = Vec::new(alloc);
+    for chunk in &indexes.extents().chunks(alloc)? {
+        lens.push(chunk.entries.len())?;
+    }
+    let Some(index) = indexes.field(7) else {
+        return Ok(false);
+    };
+    Ok(lens.as_slice() == objects && lengths(alloc, index)?.as_slice() == entries)
+}
+
+#[test]
+fn small_chunks_of_all_lists_are_joined(rt: HostRuntime) -> Result<(), Fail> {
+    let alloc = rt.alloc();
+    let mut indexes = Indexes::new(alloc);
+    indexes.start_field(alloc, 7, Base::I32)?;
+    for number in 1..601 {
+        indexes.put(alloc, number, 1)?;
+    }
+    for number in 1..301 {
+        enter(alloc, &mut indexes, 7, i128::from(number), number)?;
+    }
+    indexes.mark();
+    for number in 1..501 {
+        indexes.take(number);
+    }
+    for number in 1..251 {
+        assert!(rt; leave(&mut indexes, 7, i128::from(number), number));
+    }
+    assert!(rt; are_long(alloc, &indexes, &[12, 88], &[6, 44])?);
+    indexes.join_small(alloc)?;
+    assert!(rt; are_long(alloc, &indexes, &[100], &[50])?);
+    indexes.undo();
+    assert!(rt; are_long(alloc, &indexes, &[512, 88], &[128, 128, 44])?);
+    Ok(())
+}

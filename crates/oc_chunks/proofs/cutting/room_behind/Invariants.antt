@@ -1,5 +1,5 @@
 use Rattle.std.proofs.Common.{◌≡◌, ◌+◌, sum_by, take}
-use Rattle.oc_chunks.proofs.cutting.is_light.Given as goal
+use Rattle.oc_chunks.proofs.cutting.room_behind.Given as goal
 
 -- what is left and the bytes so far are the room
 abbrev pub invariant-loop-entry : goal.invariant-loop-entry
