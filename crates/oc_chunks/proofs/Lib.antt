@@ -15,6 +15,7 @@ pub mod Replacing
 pub mod Rotated
 pub mod Settled
 pub mod StandingIn
+pub mod Stored
 pub mod Swapping
 pub mod Views
 pub mod Wide

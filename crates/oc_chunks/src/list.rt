@@ -19,7 +19,7 @@ use crate::piece::Piece;
 use crate::reading::{ChunkView, views};
 use crate::settling::{Keep, settle};
 use crate::widths::widest_of;
-use crate::writing::{marked_numbers, set_written};
+use crate::writing::{are_numbered, marked_numbers, set_written};
 use crate::{adding, putting, removing};
 use std::alloc::{AllocError, Global};
 use std::marker::Model;
@@ -31,6 +31,8 @@ pub struct ChunkList<E: Entry> {
     pieces: Vec<Piece<E>>,
     // No entry has taken more bytes.
     widest: usize,
+    // Where true, nothing has changed since the chunks were written.
+    is_stored: bool,
 }
 
 impl<E: Entry> Model for ChunkList<E> {
@@ -44,7 +46,7 @@ impl<E: Entry> Model for ChunkList<E> {
 
     ghost view = { λ l. list_of E.order l.pieces.items };
 
-    ghost invariant = { λ l. IsLawful E.order E.bytes l.pieces.items l.widest };
+    ghost invariant = { λ l. IsLawful E.order E.bytes l.pieces.items l.widest l.is_stored };
 }
 
 impl<E: Entry> ChunkList<E> {
@@ -56,6 +58,7 @@ impl<E: Entry> ChunkList<E> {
         ChunkList {
             pieces: Vec::new(alloc),
             widest: 0,
+            is_stored: true,
         }
     }
 
@@ -69,7 +72,11 @@ impl<E: Entry> ChunkList<E> {
     {
         let widest = widest_of(&chunks);
         match pieces_of(alloc, chunks)? {
-            Some(pieces) => Ok(Some(ChunkList { pieces, widest })),
+            Some(pieces) => Ok(Some(ChunkList {
+                pieces,
+                widest,
+                is_stored: true,
+            })),
             None => Ok(None),
         }
     }
@@ -121,6 +128,7 @@ impl<E: Entry> ChunkList<E> {
         ensures err { OnErr result (self.new ≡ self.old) }
     {
         let widest = self.widest.max(entry.len());
+        self.is_stored = false;
         adding::add(alloc, &mut self.pieces, widest, entry)?;
         self.widest = widest;
         Ok(())
@@ -136,6 +144,7 @@ impl<E: Entry> ChunkList<E> {
         ensures err { OnErr result (self.new ≡ self.old) }
     {
         let widest = self.widest.max(entry.len());
+        self.is_stored = false;
         putting::put(alloc, &mut self.pieces, widest, entry)?;
         self.widest = widest;
         Ok(())
@@ -148,6 +157,7 @@ impl<E: Entry> ChunkList<E> {
         ensures chunks { self.new.chunks ≡ flat_map (left (λ e. is_eq (C.side cut.now e))) self.old.chunks }
         ensures marked { self.new.marked ≡ self.old.marked }
     {
+        self.is_stored = false;
         removing::remove(&mut self.pieces, cut)
     }
 
@@ -160,6 +170,9 @@ impl<E: Entry> ChunkList<E> {
         ensures marked { self.new.marked ≡ self.old.marked }
         ensures none { OnOk result (NoneSmall E.bytes E.MOST self.new.chunks) }
     {
+        if self.is_stored {
+            return Ok(());
+        }
         join_small(alloc, &mut self.pieces)
     }
 
@@ -168,6 +181,9 @@ impl<E: Entry> ChunkList<E> {
         ensures chunks { self.new.chunks ≡ self.old.chunks }
         ensures marked { self.new.marked ≡ self.old.chunks }
     {
+        if self.is_stored {
+            return;
+        }
         settle(&mut self.pieces, Keep::Now);
     }
 
@@ -178,8 +194,13 @@ impl<E: Entry> ChunkList<E> {
         ensures marked { self.new.marked ≡ self.new.chunks }
         ensures rest { result.now ≡ spare_of numbers.now self.old.chunks }
     {
+        if self.is_stored {
+            return numbers;
+        }
         settle(&mut self.pieces, Keep::Now);
-        set_written(&mut self.pieces, numbers)
+        let rest = set_written(&mut self.pieces, numbers);
+        self.is_stored = are_numbered(self.pieces.as_slice());
+        rest
     }
 
     /// The numbers of the chunks as they were at the mark, in order.
@@ -195,6 +216,9 @@ impl<E: Entry> ChunkList<E> {
         ensures chunks { self.new.chunks ≡ self.old.marked }
         ensures marked { self.new.marked ≡ self.old.marked }
     {
+        if self.is_stored {
+            return;
+        }
         settle(&mut self.pieces, Keep::Then);
     }
 }

@@ -1,6 +1,7 @@
 //! What writing makes of the pieces, and the numbers that they had at the mark.
 
-ghost use Rattle.std.specs.Prelude.{◌≡◌, ◌++◌, false, flat_map, IfOk, OnOk};
+ghost use Rattle.std.specs.Prelude.{◌≡◌, ◌++◌, false, flat_map, IfOk, IsSome, OnOk};
+ghost use Rattle.std.specs.Bool.{OnTrue};
 ghost use Rattle.std.specs.Option.{option_to_list};
 ghost use Rattle.oc_chunks.specs.Ascending.{Each};
 ghost use Rattle.oc_chunks.specs.Chunks.{numbers as numbers_of};
@@ -17,6 +18,7 @@ pub(crate) fn set_written<'a, E: Entry>(pieces: &mut Vec<Piece<E>>, numbers: &'a
     requires sound { IsSound E.order pieces.old.items }
     requires settled { Each IsSettled pieces.old.items }
     ensures sound { IsSound E.order pieces.new.items }
+    ensures settled { Each IsSettled pieces.new.items }
     ensures chunks { flat_map chunks_now pieces.new.items ≡ written numbers.now (flat_map chunks_now pieces.old.items) }
     ensures marked { flat_map (chunks_then E.order) pieces.new.items ≡ flat_map chunks_now pieces.new.items }
     ensures rest { result.now ≡ spare_of numbers.now (flat_map chunks_now pieces.old.items) }
@@ -44,6 +46,18 @@ fn write_one<'a, E: Drop>(piece: &mut Piece<E>, spare: &'a [u32]) -> &'a [u32]
         }
         None => spare,
     }
+}
+
+/// Whether each piece has a number.
+pub(crate) fn are_numbered<E: Drop>(pieces: &[Piece<E>]) -> bool
+    ensures { OnTrue result (Each (λ p. IsSome p.part.number) pieces.now) }
+{
+    for piece in pieces {
+        if piece.part.number.is_none() {
+            return false;
+        }
+    }
+    true
 }
 
 /// The numbers that the chunks had at the mark.

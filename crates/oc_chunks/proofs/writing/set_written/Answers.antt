@@ -27,6 +27,11 @@ returns-clause-marked g c =
     let all = wrote_all g.E.Entry.order c.args.numbers.now init c.requires.settled c.loop-at.pieces.items c.loop-at.spare.now c.loop-at.at (record { long = inv.long; rest = inv.rest; settled = inv.settled; entries = inv.entries; chunks = inv.chunks; left = inv.left }) (omega arith) in
     settled_thens g.E.Entry.order c.loop-at.pieces.items all.0
 
+pub returns-clause-settled : goal.returns-clause-settled
+returns-clause-settled g c =
+    let inv = c.loop-at.invariant in
+    (wrote_all g.E.Entry.order c.args.numbers.now c.args.pieces.now.items c.requires.settled c.loop-at.pieces.items c.loop-at.spare.now c.loop-at.at (record { long = inv.long; rest = inv.rest; settled = inv.settled; entries = inv.entries; chunks = inv.chunks; left = inv.left }) (omega arith)).0
+
 pub returns-clause-rest : goal.returns-clause-rest
 returns-clause-rest g c =
     let inv = c.loop-at.invariant in

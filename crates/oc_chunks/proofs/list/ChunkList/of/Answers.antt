@@ -1,9 +1,12 @@
 use Rattle.std.proofs.Common.{◌∙◌, map, subst, sym}
+use Rattle.oc_chunks.specs.Ascending.{Each}
 use Rattle.oc_chunks.specs.Chunks.{joined}
 use Rattle.oc_chunks.specs.Cutting.{IsWide}
+use Rattle.oc_chunks.specs.Lists.{IsStored}
 use Rattle.oc_chunks.specs.Opening.{chunk_read}
 use Rattle.oc_chunks.proofs.Opened.{settled_all_sound}
 use Rattle.oc_chunks.proofs.Settled.{settled_thens}
+use Rattle.oc_chunks.proofs.Stored.{read_stored}
 use Rattle.oc_chunks.proofs.list.ChunkList.of.Goals as goal
 
 pub invariant_of-result : goal.invariant_of-result
@@ -17,6 +20,7 @@ invariant_of-result g c =
       sound = settled_all_sound cmp ps is.settled is.ascending;
       now = now;
       marked = subst (λ l. IsWide g.E.Entry.bytes c.widest_of-widest.result (joined l)) (sym (settled_thens cmp ps is.settled)) now;
+      stored = record { settled = is.settled; chunks = subst (Each IsStored) (sym is.chunks) (read_stored _) };
     }
 
 pub returns-in-Some-clause-marked : goal.returns-in-Some-clause-marked

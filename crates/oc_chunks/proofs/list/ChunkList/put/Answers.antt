@@ -18,4 +18,5 @@ invariant_of-self-2 g c =
       sound = c.put.ensures.sound;
       now = subst (IsWide bytes widest) (sym made.entries) (wide_replaced bytes widest cmp c.args.entry (joined (flat_map chunks_now old)) it (wider bytes c.self.inside.widest widest (joined (flat_map chunks_now old)) more c.self.invariant.now));
       marked = subst (λ l. IsWide bytes widest (joined l)) (sym made.marked) (wider bytes c.self.inside.widest widest (joined (flat_map (chunks_then cmp) old)) more c.self.invariant.marked);
+      stored = tt;
     }

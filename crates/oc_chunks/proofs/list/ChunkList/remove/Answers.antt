@@ -14,4 +14,5 @@ invariant_of-self g c =
       sound = c.remove.ensures.sound;
       now = subst (λ l. IsWide bytes widest (joined l)) (sym c.remove.ensures.chunks) (wide_left bytes widest (λ e. is_eq (g.C.Cut.side c.args.cut.now e)) (flat_map chunks_now c.self.inside.pieces.items) c.self.invariant.now);
       marked = subst (λ l. IsWide bytes widest (joined l)) (sym c.remove.ensures.marked) c.self.invariant.marked;
+      stored = tt;
     }
