@@ -1,11 +1,11 @@
 -- Chunks of which some neighbours are joined.
-use Rattle.std.proofs.Common.{◌≡◌, ◌⊎◌, ◌∙◌, ap, ap₂, sym, refl, subst, inl, inr, ℕ, Bool, true, false, ◌||◌, ◌&&◌, List, [], ◌∷◌, ◌++◌, flat_map, append-nil, append_assoc}
+use Rattle.std.proofs.Common.{◌≡◌, ◌⊎◌, ◌∙◌, ap, ap₂, sym, refl, subst, inl, inr, ℕ, Bool, true, false, ◌||◌, ◌&&◌, List, [], ◌∷◌, ◌++◌, append-nil, append_assoc}
 use Rattle.std.specs.List.{list_any}
 use Rattle.std.proofs.lemmas.Bool.{false≢true}
 use Rattle.std.proofs.lemmas.List.Concat.{flat_map-append}
 use Rattle.std.proofs.lemmas.List.Folds.{list_any-append}
 use Rattle.oc_chunks.specs.Chunks.{Chunk, joined}
-use Rattle.oc_chunks.specs.Joining.{is_small, are_small, ComesFirst, IsJoint, Joins, NoneSmall}
+use Rattle.oc_chunks.specs.Joining.{is_small, are_small, ComesFirst, Joins, NoneSmall}
 
 or_first : (a b : Bool) → a ≡ true → (a || b) ≡ true
 or_first true b it = refl

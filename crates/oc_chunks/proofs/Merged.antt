@@ -13,11 +13,11 @@ use Rattle.oc_chunks.specs.Chunks.{Chunk, joined, some_of}
 use Rattle.oc_chunks.specs.Editing.{stands_in}
 use Rattle.oc_chunks.specs.Joining.{is_small, are_small, Joins, NoneSmall}
 use Rattle.oc_chunks.specs.Merging.{AreSmall, Cleared, IsAlone, IsBare, IsJointPart, Merges, MergesTwo, Neighbours}
-use Rattle.oc_chunks.specs.Pieces.{present, shown, chunk_now, chunks_now, chunks_then, was_chunks, IsSized, IsSizedPart, IsSound}
-use Rattle.oc_chunks.proofs.Eaches.{each_append, each_front, each_rest}
+use Rattle.oc_chunks.specs.Pieces.{present, shown, chunk_now, chunks_now, chunks_then, IsSized, IsSound}
+use Rattle.oc_chunks.proofs.Eaches.{each_rest}
 use Rattle.oc_chunks.proofs.Filling.{stood_then, stood_was}
 use Rattle.oc_chunks.proofs.Gaps.{piece_at}
-use Rattle.oc_chunks.proofs.Joined.{both, joint_of, joins_more, none_front, none_more, none_one}
+use Rattle.oc_chunks.proofs.Joined.{both, joint_of, joins_more, none_front, none_more}
 use Rattle.oc_chunks.proofs.Located.{around}
 use Rattle.oc_chunks.proofs.Read.{no_chunk, the_chunk}
 use Rattle.oc_chunks.proofs.Replacing.{pairs_outside}

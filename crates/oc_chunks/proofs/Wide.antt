@@ -1,5 +1,5 @@
 -- The bytes of entries of which none is wider than the widest.
-use Rattle.std.proofs.Common.{◌≡◌, ◌∙◌, ap, sym, refl, subst, ℕ, suc, ◌+◌, ◌*◌, ◌<◌, ◌≤◌, Bool, true, false, nat_le, nat_lt, not, cond, ◌||◌, ◌&&◌, List, [], ◌∷◌, ◌++◌, length, take, get_or, filter, map, flat_map, sum_by, arith, append-nil}
+use Rattle.std.proofs.Common.{◌≡◌, ◌∙◌, ap, sym, refl, subst, ℕ, suc, ◌+◌, ◌*◌, ◌<◌, ◌≤◌, Bool, true, false, not, cond, List, [], ◌∷◌, ◌++◌, length, take, get_or, filter, map, flat_map, sum_by, arith, append-nil}
 use Rattle.std.specs.List.{list_any}
 use Rattle.std.specs.Ordering.{is_lt, is_eq}
 use Rattle.std.specs.declared.cmp.Ordering.{Ordering}
@@ -9,7 +9,7 @@ use Rattle.std.proofs.lemmas.List.{take_more, map_push}
 use Rattle.std.proofs.lemmas.List.Sums.{sum_by-cons}
 use Rattle.std.proofs.lemmas.List.Concat.{flat_map-append}
 use Rattle.oc_model.specs.Lists.{placed}
-use Rattle.oc_chunks.specs.Ascending.{Each, has, entered, replaced}
+use Rattle.oc_chunks.specs.Ascending.{has, entered, replaced}
 use Rattle.oc_chunks.specs.declared.opening.Written.{Written}
 use Rattle.oc_chunks.specs.declared.piece.Piece.{Piece}
 use Rattle.oc_chunks.specs.Chunks.{Chunk, is_within, joined, left, nonempty}

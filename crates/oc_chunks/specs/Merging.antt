@@ -1,5 +1,5 @@
 -- What joining makes of the pieces.
-use Rattle.std.specs.Prelude.{◌≡◌, ◌⊎◌, ℕ, ◌+◌, ◌≤◌, true, List, [], ◌∷◌, ◌++◌, take, drop, length, flat_map, suc}
+use Rattle.std.specs.Prelude.{◌≡◌, ◌⊎◌, ℕ, ◌+◌, ◌≤◌, true, List, [], ◌∷◌, ◌++◌, take, drop, length, flat_map, None, suc}
 use Rattle.std.specs.List.{AllWithin}
 use Rattle.std.specs.declared.cmp.Ordering.{Ordering}
 use Rattle.oc_chunks.specs.declared.piece.Part.{Part}
@@ -41,6 +41,7 @@ module _ {X : Type 0} where
   pub record IsJointPart (p q joint : Part X) : Type 0 where
     pub items : joint.items.items ≡ present p ++ present q
     pub whole : joint.len ≡ length joint.items.items
+    pub number : joint.number ≡ None
     pub changed : joint.changed ≡ true
 
   module _ (cmp : X → X → Ordering) where

@@ -1,7 +1,7 @@
 //! What writing makes of the pieces, and the numbers that they had at the mark.
 
 ghost use Rattle.std.specs.Prelude.{◌≡◌, ◌++◌, false, flat_map, IfOk, IsSome, OnOk};
-ghost use Rattle.std.specs.Bool.{OnTrue};
+ghost use Rattle.std.specs.Bool.{OnFalse, OnTrue};
 ghost use Rattle.std.specs.Option.{option_to_list};
 ghost use Rattle.oc_chunks.specs.Ascending.{Each};
 ghost use Rattle.oc_chunks.specs.Chunks.{numbers as numbers_of};
@@ -50,7 +50,8 @@ fn write_one<'a, E: Drop>(piece: &mut Piece<E>, spare: &'a [u32]) -> &'a [u32]
 
 /// Whether each piece has a number.
 pub(crate) fn are_numbered<E: Drop>(pieces: &[Piece<E>]) -> bool
-    ensures { OnTrue result (Each (λ p. IsSome p.part.number) pieces.now) }
+    ensures yes { OnTrue result (Each (λ p. IsSome p.part.number) pieces.now) }
+    ensures no { OnFalse result (Each (λ p. IsSome p.part.number) pieces.now → ⊥) }
 {
     for piece in pieces {
         if piece.part.number.is_none() {

@@ -1,6 +1,6 @@
 -- The indexes as a commit leaves them.
-use Rattle.std.proofs.Common.{◌≡◌, ◌∙◌, ap, ap₂, sym, refl, subst, ℕ, zero, suc, ◌+◌, ◌<◌, ◌≤◌, List, [], ◌∷◌, ◌++◌, length, map, take, drop, get_or, set, flat_map, arith, append-nil, append_assoc}
-use Rattle.std.proofs.lemmas.List.{take_all, drop_all, take_more, take_more_set, drop-set-lt, length-set}
+use Rattle.std.proofs.Common.{◌≡◌, ◌∙◌, ap, ap₂, sym, refl, ℕ, zero, suc, ◌+◌, ◌<◌, ◌≤◌, List, [], ◌∷◌, ◌++◌, length, map, take, drop, get_or, set, flat_map, arith, append-nil, append_assoc}
+use Rattle.std.proofs.lemmas.List.{take_all, drop_all, take_more_set, drop-set-lt, length-set}
 use Rattle.std.proofs.lemmas.List.Concat.{flat_map-append}
 use Rattle.oc_chunks.specs.Opening.{spare_of}
 use Rattle.oc_chunks.proofs.Settled.{same_rest, next_rest}

@@ -1,4 +1,4 @@
-use Rattle.std.proofs.Common.{◌≡◌, ◌∙◌, ◌<◌, ◌≤◌, length, subst, sym, arith}
+use Rattle.std.proofs.Common.{◌∙◌, subst, sym, arith}
 use Rattle.oc_chunks.specs.Merging.{IsAlone, Neighbours}
 use Rattle.oc_chunks.proofs.Merged.{merges_back, none_alone, none_back, none_before, small_at, apart_at}
 use Rattle.oc_chunks.proofs.joining.+join_back.Goals as goal

@@ -1,4 +1,4 @@
-use Rattle.std.proofs.Common.{◌≡◌, ◌∙◌, ◌<◌, ap, subst, sym, length, arith}
+use Rattle.std.proofs.Common.{◌∙◌, ◌<◌, ap, subst, sym, length, arith}
 use Rattle.oc_chunks.specs.Merging.{Cleared}
 use Rattle.oc_chunks.specs.Pieces.{IsSized}
 use Rattle.oc_chunks.proofs.Eaches.{each_at}

@@ -1,4 +1,4 @@
-use Rattle.std.proofs.Common.{◌≡◌, ◌<◌, ◌≤◌, ◌-◌, ap, arith}
+use Rattle.std.proofs.Common.{◌-◌, ap, arith}
 use Rattle.oc_chunks.proofs.Merged.{alone_first, neighbours}
 use Rattle.oc_chunks.proofs.joining.neighbour.Goals as goal
 

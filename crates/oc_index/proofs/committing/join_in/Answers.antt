@@ -1,5 +1,5 @@
-use Rattle.std.proofs.Common.{◌≡◌, ◌<◌, ◌+◌, length, arith}
-use Rattle.oc_index.proofs.FieldsJoined.{AreJoined, joined_all, joined_step, none_all, none_step}
+use Rattle.std.proofs.Common.{◌+◌, arith}
+use Rattle.oc_index.proofs.FieldsJoined.{AreJoined, joined_all, joined_step, none_step}
 use Rattle.oc_index.proofs.committing.join_in.Goals as goal
 
 pub returns-in_err-join_one-clause-fields : goal.returns-in_err-join_one-clause-fields

@@ -1,4 +1,4 @@
-use Rattle.std.proofs.Common.{◌∙◌, arith}
+use Rattle.std.proofs.Common.{arith}
 use Rattle.oc_index.proofs.Committed.{AreWritten, written_step, written_all}
 use Rattle.oc_index.proofs.committing.write_in.Goals as goal
 

@@ -1,4 +1,4 @@
-use Rattle.std.proofs.Common.{◌≡◌, ap, subst, refl, arith, false, flat_map}
+use Rattle.std.proofs.Common.{◌≡◌, ap, subst, refl, false, flat_map}
 use Rattle.oc_chunks.specs.Ascending.{Each}
 use Rattle.oc_index.specs.Indexed.{field_at, is_of, now_of, IsPlace}
 use Rattle.oc_index.proofs.Slots.{found, none_at, changed_now, changed_then, not_some, adds_change, either_way}

@@ -1,4 +1,4 @@
-use Rattle.std.proofs.Common.{◌≡◌, sym, subst, refl, arith, false, flat_map, IfSome}
+use Rattle.std.proofs.Common.{◌≡◌, sym, subst, refl, false, flat_map, IfSome}
 use Rattle.std.specs.List.{list_any}
 use Rattle.oc_chunks.specs.Ascending.{Each}
 use Rattle.oc_chunks.specs.Chunks.{joined}

@@ -1,4 +1,4 @@
-use Rattle.std.proofs.Common.{◌≡◌, ◌≤◌, sym, subst, flat_map, arith}
+use Rattle.std.proofs.Common.{◌≤◌, sym, subst, flat_map, arith}
 use Rattle.oc_chunks.specs.Chunks.{joined}
 use Rattle.oc_chunks.specs.Cutting.{IsWide}
 use Rattle.oc_chunks.specs.Pieces.{chunks_now, chunks_then}

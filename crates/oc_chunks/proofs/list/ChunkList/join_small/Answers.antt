@@ -2,7 +2,7 @@ use Rattle.std.proofs.Common.{◌∙◌, ap, sym, subst, flat_map}
 use Rattle.std.specs.Bool.{OnTrue}
 use Rattle.oc_chunks.specs.Chunks.{joined}
 use Rattle.oc_chunks.specs.Cutting.{IsWide}
-use Rattle.oc_chunks.specs.Joining.{Joins, NoneSmall}
+use Rattle.oc_chunks.specs.Joining.{NoneSmall}
 use Rattle.oc_chunks.specs.Lists.{AreStored}
 use Rattle.oc_chunks.specs.Pieces.{chunks_now}
 use Rattle.oc_chunks.proofs.Joined.{joined_same, joins_self}

@@ -22,7 +22,7 @@ invariant_of-self g c =
       sound = made.sound;
       now = now;
       marked = subst (λ l. IsWide bytes widest (joined l)) (sym made.marked) now;
-      stored = are_stored c.args.numbers.now (flat_map chunks_now c.settle.new.pieces.items) new made.settled made.chunks c.are_numbered-self-inside.result (subst (λ l. OnTrue c.are_numbered-self-inside.result (Each (λ p. IsSome p.part.number) l)) c.as_slice.ensures.value c.are_numbered-self-inside.ensures);
+      stored = are_stored c.args.numbers.now (flat_map chunks_now c.settle.new.pieces.items) new made.settled made.chunks c.are_numbered-self-inside.result (subst (λ l. OnTrue c.are_numbered-self-inside.result (Each (λ p. IsSome p.part.number) l)) c.as_slice.ensures.value c.are_numbered-self-inside.ensures.yes);
     }
 
 pub returns-then-self-clause-chunks : goal.returns-then-self-clause-chunks

@@ -1,4 +1,4 @@
-use Rattle.std.proofs.Common.{◌≡◌, ◌∙◌, ap, [], flat_map}
+use Rattle.std.proofs.Common.{◌∙◌, ap, [], flat_map}
 use Rattle.oc_model.specs.Lists.{placed}
 use Rattle.oc_index.specs.Indexed.{field_cmp, now_of, then_of, undone}
 use Rattle.oc_index.proofs.Ordered.{placed_seen, unseen}
