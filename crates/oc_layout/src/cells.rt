@@ -11,7 +11,7 @@ pub enum Space {
 }
 
 /// A place and a length. The place counts blocks, the length bytes.
-#[derive(Clone, Copy, Debug, PartialEq, Eq)]
+#[derive(Clone, Copy, Debug, PartialEq, Eq, Hash)]
 pub struct Cell {
     pub at: u32,
     pub len: u32,

@@ -28,10 +28,10 @@ module _ (h : Header) (ws : List CellWrite) (d : Disk) (len : h.log.len ≡ 4 + 
   long_first : length first ≡ max (length d.bytes) (log_at h + h.log.len)
   long_first = omega (arith, length-over (log_at h) log (padded (log_at h) d.bytes) begins, length-padded (log_at h) d.bytes, log_len)
 
-  long : length (staged h ws d.bytes) ≡ max (length d.bytes) (log_at h + h.log.len)
+  pub long : length (staged h ws d.bytes) ≡ max (length d.bytes) (log_at h + h.log.len)
   long = omega (arith, length-over-in 32 (cell_bytes h.log) first (omega (arith, long_first, may.long)), long_first)
 
-  stays : (k : ℕ) → Clear h k → get_or (staged h ws d.bytes) k 0 ≡ get_or d.bytes k 0
+  pub stays : (k : ℕ) → Clear h k → get_or (staged h ws d.bytes) k 0 ≡ get_or d.bytes k 0
   stays k clear =
       over_out 32 (cell_bytes h.log) first k (omega (arith, long_first, may.long)) clear.1
       ∙ over_out (log_at h) log (padded (log_at h) d.bytes) k begins (subst (λ (n : ℕ). Apart k (log_at h) n) (sym log_len) clear.0)
@@ -49,7 +49,7 @@ module _ (h : Header) (ws : List CellWrite) (d : Disk) (len : h.log.len ≡ 4 + 
         ∙ ap (λ (l : List ℕ). get_or l k 0) is ∙ stays k clear;
   }
 
-  within : AllWithin (length (staged h ws d.bytes)) ws
+  pub within : AllWithin (length (staged h ws d.bytes)) ws
   within = further (length d.bytes) (length (staged h ws d.bytes)) ws (omega (arith, long)) may.targets.within
 
   -- all of them: a file whose bytes are those staged, outside the log and the gate, with or without the cells

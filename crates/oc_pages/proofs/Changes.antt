@@ -39,11 +39,12 @@ named_set p number cell named has few other has_other some = elim (cases_eq (slo
 
 -- ---- a page more
 
-pub ordered_more : (first cell : Cell) (n : ℕ) (kept new : List Page) (p : Page) → IsOrdered first n kept → new ≡ kept ++ p ∷ [] → cell ≡ place_of p → IsNamed p → IsOrdered cell n new
-ordered_more first cell n kept new p is e here named = record {
+pub ordered_more : (first cell : Cell) (n : ℕ) (kept new : List Page) (p : Page) → IsOrdered first n kept → new ≡ kept ++ p ∷ [] → cell ≡ place_of p → IsNamed p → length p.cells ≡ 126 → IsOrdered cell n new
+ordered_more first cell n kept new p is e here named size = record {
   within = omega (arith, is.within, ap length e, length-append kept (p ∷ []));
   first_is = here ∙ sym (ap (λ (l : List Page). first_of (chained n l)) e ∙ ap first_of (chained_more n kept p is.within));
   named = subst (λ (l : List Page). All IsNamed l) (sym e) (All-push IsNamed kept p is.named named);
+  full = subst (λ (l : List Page). All (λ q. length q.cells ≡ 126) l) (sym e) (All-push (λ q. length q.cells ≡ 126) kept p is.full size);
 }
 
 pub pages_more : (first : Cell) (n : ℕ) (kept new : List Page) (p : Page) (space : Space) (index at : ℕ) → IsOrdered first n kept → new ≡ kept ++ p ∷ [] → p ≡ empty_page space index at first → chained n new ≡ empty_page space index at (first_of (chained n kept)) ∷ chained n kept
@@ -51,11 +52,12 @@ pages_more first n kept new p space index at is e p_is =
     ap (chained n) e ∙ chained_more n kept p is.within
     ∙ (λ i. (p_is ∙ ap (empty_page space index at) is.first_is) i ∷ chained n kept)
 
-pub ordered_all : (root : Cell) (kept : List Page) → first_of kept ≡ root → All IsInRange kept → IsOrdered root (length kept) kept
-ordered_all root kept e all = record {
+pub ordered_all : (root : Cell) (kept : List Page) → first_of kept ≡ root → All IsInRange kept → All (λ p. length p.cells ≡ 126) kept → IsOrdered root (length kept) kept
+ordered_all root kept e all full = record {
   within = omega arith;
   first_is = sym (ap first_of (chained_all kept) ∙ e);
   named = named_in_range kept all;
+  full = full;
 }
 
 -- ---- another cell for a number
@@ -101,4 +103,7 @@ module _ (first : Cell) (n : ℕ) (kept new : List Page) (place slot : ℕ) (spa
         (All-set IsNamed kept place (record (page_in kept place) { cells = set (page_in kept place).cells slot cell })
         (subst (λ (s : ℕ). IsNamed (record (page_in kept place) { cells = set (page_in kept place).cells s cell })) (sym slot_is)
         (named_set (page_in kept place) number cell (is.named place no_page lt) (grind (arith, here)) few)) is.named);
+    full = subst (λ (l : List Page). All (λ q. length q.cells ≡ 126) l) (sym e)
+        (All-set (λ q. length q.cells ≡ 126) kept place (record (page_in kept place) { cells = set (page_in kept place).cells slot cell })
+        (length-set (page_in kept place).cells slot cell ∙ is.full place no_page lt) is.full);
   }

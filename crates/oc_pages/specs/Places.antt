@@ -43,8 +43,9 @@ chained loaded kept = reverse (drop loaded kept) ++ take loaded kept
 abbrev pub IsNamed : Page → Type 0
 IsNamed p = (number : ℕ) → has_number p.index number ≡ true → is_empty (cell_in p number) ≡ false → number < 2 ^ 32
 
--- the chain begins at this cell, and its pages are in order
+-- the chain begins at this cell, and its pages are in order and have all their cells
 pub record IsOrdered (first : Cell) (loaded : ℕ) (kept : List Page) : Type 0 where
   pub within : loaded ≤ length kept
   pub first_is : first ≡ first_of (chained loaded kept)
   pub named : All IsNamed kept
+  pub full : All (λ p. length p.cells ≡ 126) kept

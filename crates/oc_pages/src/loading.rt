@@ -28,6 +28,7 @@ pub fn walk<H: Host>(
     ensures chain { IfOk result (λ table. IsTrue H.tells →
         HasPages unit (put_cells cells.now (H.disk host.old).bytes) root table.pages) }
     ensures in_range { IfOk result (λ table. All IsInRange table.pages) }
+    ensures full { IfOk result (λ table. All (λ p. length p.cells ≡ 126) table.pages) }
     ensures distinct { IfOk result (λ table. AllPairs IsOther table.pages) }
     ensures first { IfOk result (λ table. first_of table.pages ≡ root) }
     ensures no_page { IsErrOf result pages_fault.NotAPage → IsTrue H.tells →

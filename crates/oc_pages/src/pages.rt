@@ -138,6 +138,14 @@ impl Pages {
         })
     }
 
+    /// The bytes in a block.
+    pub fn unit(&self) -> u32
+        ensures value { result ≡ self.now.unit }
+        ensures full { All (λ p. length p.cells ≡ 126) self.now.pages }
+    {
+        self.unit
+    }
+
     /// The cell of a number, or `None` where no page holds the number or its cell is empty.
     pub fn pointer(&self, space: Space, number: u32) -> Option<Cell>
         ensures { result ≡ pointer_of self.now.pages space number }

@@ -121,6 +121,7 @@ fn both(
 fn pointers_of_both_spaces_are_read(rt: HostRuntime) -> Result<(), Fail> {
     for (unit, first, second) in [(1, 2048, 4096), (16, 128, 256), (64, 32, 64)] {
         let pages = both(rt.alloc(), unit, first, second)?.expect(&rt, "two pages");
+        assert_eq!(rt; pages.unit(), unit);
         assert_eq!(rt; pages.first(), page_at(first));
         for (space, number, pointer, target) in [
             (Space::Objects, 0, None, None),

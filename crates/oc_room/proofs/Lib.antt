@@ -4,3 +4,4 @@ pub mod Few
 pub mod Placed
 pub mod Placing
 pub mod Shortages
+pub mod Orders

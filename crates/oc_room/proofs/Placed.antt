@@ -1,5 +1,5 @@
 -- Things placed one after another.
-use Rattle.std.proofs.Common.{◌≡◌, ◌∙◌, ℕ, suc, ◌+◌, ◌<◌, ◌≤◌, true, false, cond, leb, List, [], ◌∷◌, ◌++◌, length, map, take, drop, get_or, Some, None, ap, ap₂, sym, subst, subst₂, inl, inr, refl, arith}
+use Rattle.std.proofs.Common.{◌≡◌, ◌∙◌, ℕ, suc, ◌+◌, max, ◌<◌, ◌≤◌, true, false, cond, leb, List, [], ◌∷◌, ◌++◌, length, map, take, drop, get_or, Some, None, ap, ap₂, sym, subst, subst₂, inl, inr, refl, arith}
 use Rattle.std.specs.List.{All}
 use Rattle.std.proofs.lemmas.Bool.{cases_lt}
 use Rattle.std.proofs.lemmas.Bool.Decides.{nat_tests}
@@ -15,17 +15,17 @@ use Rattle.oc_free.specs.FreeParts.{AreFree, free_at}
 use Rattle.oc_free.proofs.ByBlocks.{by_blocks, free_once}
 use Rattle.oc_free.proofs.Edits.{counted}
 use Rattle.oc_room.specs.declared.fault.RoomFault.TheVariants as room_fault
-use Rattle.oc_room.specs.Rooms.{Space, Placed, owns, owners, open_at, place_next, placed, finds_room, lacking, IsSame, LiesIn, LiesApart, GoesBack}
+use Rattle.oc_room.specs.Rooms.{Space, Placed, owns, owners, open_at, place_next, placed, finds_room, lacking, IsSame, LiesIn, LiesApart, GoesBack, AreInOrder}
 use Rattle.oc_room.proofs.Counting.{some_blocks}
 use Rattle.oc_room.proofs.Few.{few}
 
 -- ---- the first that finds no room
 
-lacking_room : (unit limit : ℕ) (p : Placed) (len : ℕ) (lens : List ℕ) → finds_room unit limit p len ≡ true → lacking unit limit p (len ∷ lens) ≡ lacking unit limit (place_next unit p len) lens
+pub lacking_room : (unit limit : ℕ) (p : Placed) (len : ℕ) (lens : List ℕ) → finds_room unit limit p len ≡ true → lacking unit limit p (len ∷ lens) ≡ lacking unit limit (place_next unit p len) lens
 unfolding lacking
 lacking_room unit limit p len lens found = rw found refl
 
-lacking_none : (unit limit : ℕ) (p : Placed) (len : ℕ) (lens : List ℕ) → finds_room unit limit p len ≡ false → lacking unit limit p (len ∷ lens) ≡ Some (record { need = blocks unit len; length = p.end })
+pub lacking_none : (unit limit : ℕ) (p : Placed) (len : ℕ) (lens : List ℕ) → finds_room unit limit p len ≡ false → lacking unit limit p (len ∷ lens) ≡ Some (record { need = blocks unit len; length = p.end })
 unfolding lacking
 lacking_none unit limit p len lens found = rw found refl
 
@@ -155,3 +155,9 @@ full_parts a b c d e f same = (cc, cc, cc)
 
 pub same_error : {T E : Type 0} (x y : E) → IsErrOf {T = T} (Err x) y → x ≡ y
 same_error x y same = cc
+
+-- one thing more, in order
+pub order_behind : (unit end last next : ℕ) (cells : List Cell) (c : Cell) → AreInOrder unit end cells last → c.at ≤ last → next ≡ max last (c.at + blocks unit c.len) → AreInOrder unit end (cells ++ c ∷ []) next
+order_behind unit end last next [] c order begins grows =
+    (omega (arith, begins, order), grows ∙ ap (λ n. max n (c.at + blocks unit c.len)) order)
+order_behind unit end last next (d ∷ ds) c order begins grows = (order.0, order_behind unit (max end (d.at + blocks unit d.len)) last next ds c order.1 begins grows)

@@ -1,6 +1,7 @@
 -- One thing placed: in the front of a part, at the end, or nowhere.
-use Rattle.std.proofs.Common.{◌≡◌, ◌≤◌, ◌<◌, ◌+◌, ℕ, true, false, cond, leb, List, [], ◌∷◌, ◌++◌, Option, Some, None, option_map, refl, sym, ap, ◌∙◌, arith}
+use Rattle.std.proofs.Common.{◌≡◌, ◌≤◌, ◌<◌, ◌+◌, ℕ, true, false, cond, leb, List, [], ◌∷◌, ◌++◌, Option, Some, None, option_map, refl, sym, ap, ◌∙◌, inl, inr, ◌-◌, arith}
 use Rattle.std.specs.Prelude.{IfSome}
+use Rattle.std.proofs.lemmas.Bool.{cases_lt}
 use Rattle.std.proofs.lemmas.Bool.Decides.{nat_tests}
 use Rattle.oc_layout.specs.declared.cells.Cell.{Cell}
 use Rattle.oc_layout.specs.Layout.{blocks}
@@ -55,6 +56,17 @@ module _ (unit : ℕ) (cells : List Cell) (parts : List Part) (end len : ℕ) wh
 pub still_within : (old new : List Part) (end at n : ℕ) → ((k : ℕ) → end ≤ k → free_at old k ≡ 0)
     → ((k : ℕ) → free_at old k ≡ free_at new k + (cond (has_block k (record { address = at; blocks = n })) 1 0)) → (k : ℕ) → end ≤ k → free_at new k ≡ 0
 still_within old new end at n none took k le = omega (arith, none k le, took k)
+
+-- what was free ends within the file
+pub ends_within : (old new : List Part) (end at n : ℕ) → 1 ≤ n → ((k : ℕ) → end ≤ k → free_at old k ≡ 0)
+    → ((k : ℕ) → free_at old k ≡ free_at new k + (cond (has_block k (record { address = at; blocks = n })) 1 0)) → at + n ≤ end
+ends_within old new end at n some none took =
+    let last = at + n - 1 in
+    let inside : has_block last (record { address = at; blocks = n }) ≡ true = grind (arith, nat_tests, some) in
+    elim (cases_lt last end) [
+      | inl before ↦ omega (arith, before, some)
+      | inr behind ↦ absurd (omega (arith, none last behind, took last, ap {B = ℕ} (λ b. cond b 1 0) inside))
+    ]
 
 pub became_free : (old new : List Part) (end at n : ℕ) → at + n ≤ end → ((k : ℕ) → end ≤ k → free_at old k ≡ 0)
     → ((k : ℕ) → free_at new k ≡ free_at old k + (cond (has_block k (record { address = at; blocks = n })) 1 0)) → (k : ℕ) → end ≤ k → free_at new k ≡ 0

@@ -1,6 +1,6 @@
 -- The room of a file: the blocks that things own, the free parts, the end of the file and its limit. Addresses and the room's numbers count
 -- blocks, the lengths of things bytes.
-use Rattle.std.specs.Prelude.{◌≡◌, ◌⊎◌, true, ◌<◌, ◌≤◌, ℕ, ◌+◌, ◌&&◌, ◌||◌, nat_le, Bool, if◌then◌else◌, List, [], ◌∷◌, ◌++◌, length, All, Option, Some, None, is_some, fold, count_by}
+use Rattle.std.specs.Prelude.{◌≡◌, ◌⊎◌, true, ◌<◌, ◌≤◌, ℕ, ◌+◌, max, ◌&&◌, ◌||◌, nat_le, Bool, if◌then◌else◌, List, [], ◌∷◌, ◌++◌, length, All, Option, Some, None, is_some, fold, count_by}
 use Rattle.oc_layout.specs.declared.cells.Cell.{Cell}
 use Rattle.oc_layout.specs.Layout.{blocks}
 use Rattle.oc_model.specs.Space.{Part, Shortage, best_fit, without}
@@ -110,3 +110,8 @@ pub record GoesBack (s : Space) (things : List Cell) (to : ℕ) : Type 0 where
   pub within : (k : ℕ) → to ≤ k → free_at s.parts k ≡ 0
   pub end : to ≤ s.end
   pub spare : length things ≤ s.spare
+
+-- each of the cells begins no later than the file ended before it, and with the last of them it ends here
+abbrev pub AreInOrder : ℕ → ℕ → List Cell → ℕ → Type 0
+AreInOrder unit end [] last = last ≡ end
+AreInOrder unit end (c ∷ cs) last = (c.at ≤ end) × AreInOrder unit (max end (c.at + blocks unit c.len)) cs last

@@ -1,7 +1,7 @@
-ghost use Rattle.std.specs.Prelude.{◌≡◌, ◌<◌, ◌≤◌, ◌+◌, ℕ, List, [], ◌∷◌, ◌++◌, is_some, length, map, true, Some, None, All, IfSome, IfNone, IfOk, OnOk, OnErr, IsErrOf, if◌then◌else◌, ◌&&◌, nat_le, nat_lt};
+ghost use Rattle.std.specs.Prelude.{◌≡◌, ◌<◌, ◌≤◌, ◌+◌, ℕ, max, List, [], ◌∷◌, ◌++◌, is_some, length, map, true, Some, None, All, IfSome, IfNone, IfOk, OnOk, OnErr, IsErrOf, if◌then◌else◌, ◌&&◌, nat_le, nat_lt};
 ghost use Rattle.oc_layout.specs.Layout.{blocks};
 ghost use Rattle.oc_free.specs.FreeParts.{all_blocks, free_at};
-ghost use Rattle.oc_room.specs.Rooms.{owns, owners, open_at, Space, unplaced, place_next, placed, finds_room, lacking, IsRoom, IsSame, LiesIn, LiesApart, GoesBack};
+ghost use Rattle.oc_room.specs.Rooms.{owns, owners, open_at, Space, unplaced, place_next, placed, finds_room, lacking, IsRoom, IsSame, LiesIn, LiesApart, GoesBack, AreInOrder};
 ghost use Rattle.oc_room.specs.declared.fault.RoomFault.TheVariants as RoomFault;
 
 use crate::RoomFault;
@@ -143,6 +143,7 @@ impl Room {
         ensures spare { IfOk result (λ cells. others + length cells.items ≤ self.new.spare) }
         ensures lengths { IfOk result (λ cells. map (λ cell. cell.len) cells.items ≡ lengths.now) }
         ensures back { IfOk result (λ cells. GoesBack self.new cells.items self.old.end) }
+        ensures order { IfOk result (λ cells. AreInOrder self.old.unit self.old.end cells.items self.new.end) }
         ensures was_room { IsRoom self.old }
         ensures is_room { IsRoom self.new }
     {
@@ -236,6 +237,8 @@ impl Room {
         ensures open { IfSome result (λ cell. (k : ℕ) →
             open_at self.old k ≡ open_at self.new k + (if owns self.old.unit k cell then 1 else 0)) }
         ensures lies { IfSome result (λ cell. LiesIn self.old cell) }
+        ensures begins { IfSome result (λ cell. cell.at ≤ self.old.end) }
+        ensures grows { IfSome result (λ cell. self.new.end ≡ max self.old.end (cell.at + blocks self.old.unit cell.len)) }
         ensures fewer { (k : ℕ) → free_at self.new.parts k ≤ free_at self.old.parts k }
         ensures end { self.old.end ≤ self.new.end }
         ensures within { IfSome result (λ _. self.new.end ≤ self.new.limit) }

@@ -1,16 +1,19 @@
 -- What a stop leaves while a file is attached.
-use Rattle.std.proofs.Common.{◌≡◌, ◌∙◌, inl, inr, ⊎_elim, ℕ, ◌≤◌, Bool, List, length, sym, ap, subst, arith, Result, Ok, Err}
+use Rattle.std.proofs.Common.{◌≡◌, ◌≢◌, ◌∙◌, inl, inr, ⊎_elim, ℕ, ◌≤◌, ◌==◌, if◌then◌else◌, Bool, true, false, List, [], ◌∷◌, length, sym, ap, subst, arith, Result, Ok, Err}
 use Rattle.std.specs.Prelude.{OnOk}
-use Rattle.oc_host.specs.Disk.{Disk, IsImage, IsSynced, LeavesOnly, Looks, AfterSync, AfterLook, now, synced_now}
+use Rattle.std.proofs.lemmas.Bool.Decides.{nat_tests}
+use Rattle.oc_host.specs.Disk.{Disk, IsDisk, over, IsImage, IsSynced, LeavesOnly, Looks, AfterSync, AfterLook, now, synced_now}
 use Rattle.oc_host.specs.declared.host.Failed.{Failed}
-use Rattle.oc_host.proofs.Moments.{only_bytes, synced, then_runs, weaken, looks_more, looks_first}
+use Rattle.oc_host.proofs.Moments.{only_bytes, said_stays, synced, then_runs, weaken, looks_more, looks_first}
 use Rattle.oc_layout.specs.declared.cells.CellWrite.{CellWrite}
 use Rattle.oc_layout.specs.declared.cells.Header.{Header}
+use Rattle.oc_log.specs.Log.{put_cells}
 use Rattle.oc_pages.specs.declared.page.Page.{Page}
-use Rattle.oc_slots.specs.Attaching.{IsJudged, MayBeMade, MayLeave, StaysShort, StillGives}
+use Rattle.oc_slots.specs.Attaching.{IsFound, IsJudged, with_cells, with_closed, MayBeMade, MayLeave, StaysShort, StillGives}
 use Rattle.oc_slots.specs.Forms.{HasForm, Gives}
 use Rattle.oc_slots.specs.Maps.{SlotMap}
 use Rattle.oc_slots.specs.Stores.{Slots}
+use Rattle.oc_slots.proofs.OneMap.{one_form}
 use Rattle.oc_slots.proofs.Recovering.{form_gives}
 
 pub on_ok : {T E : Type 0} (r : Result T E) (P : Type 0) → P → OnOk r P
@@ -130,3 +133,33 @@ sync_failed anew old d x r is after = failed_leaves anew old d x (subst (λ y. A
 
 pub len_looks : {T : Type 0} (d e : Disk) (r : Result T Failed) → AfterLook r d e → Looks d e
 len_looks d e r after = looks_more d d r e (looks_first d) after
+
+-- ---- what is found of a file of the form
+
+module _ (g h : Header) (vs ws : List CellWrite) (pages : List Page) (s : Slots) (b : List ℕ) (judged : IsJudged g vs s b) (form : HasForm h ws pages b) where
+  same_header : g ≡ h
+  same_header = (one_form b g h vs ws s.pages pages judged.form form).0
+
+  same_writes : vs ≡ ws
+  same_writes = (one_form b g h vs ws s.pages pages judged.form form).1
+
+  found_with : (now : List ℕ) → now ≡ (if h.gate == 1 then over 64 (0 ∷ []) (put_cells ws b) else b) → IsFound h ws pages s b now
+  found_with now bytes = record {
+    header = judged.header ∙ (λ i. with_closed (with_cells (same_header i) (same_writes i)));
+    pages = (one_form b g h vs ws s.pages pages judged.form form).2;
+    bytes = bytes;
+  }
+
+  pub found_shut : g.gate ≢ 1 → IsFound h ws pages s b b
+  found_shut gate =
+      let none : (h.gate == 1) ≡ false = (λ i. (sym same_header i).gate == 1) ∙ grind (arith, nat_tests, gate) in
+      found_with b (sym (ap (λ t. if t then over 64 (0 ∷ []) (put_cells ws b) else b) none))
+
+  pub found_open : g.gate ≡ 1 → (now : List ℕ) → now ≡ over 64 (0 ∷ []) (put_cells vs b) → IsFound h ws pages s b now
+  found_open gate now bytes =
+      let some : (h.gate == 1) ≡ true = (λ i. (sym same_header i).gate == 1) ∙ grind (arith, nat_tests, gate) in
+      found_with now (bytes ∙ ap (λ l. over 64 (0 ∷ []) (put_cells l b)) same_writes ∙ sym (ap (λ t. if t then over 64 (0 ∷ []) (put_cells ws b) else b) some))
+
+-- what was said stays
+pub said_kept : (anew : Bool) (old new : Disk) → IsDisk new → LeavesOnly old new (MayLeave anew old) → new.said ≡ old.said
+said_kept anew old new sound run = said_stays old new (MayLeave anew old) run sound (λ image said m. m.told)

@@ -20,7 +20,8 @@ use Rattle.oc_pages.specs.Chains.{HasPages}
 use Rattle.oc_pages.proofs.Images.{first_same}
 use Rattle.oc_room.specs.Rooms.{owns, owners}
 use Rattle.oc_slots.specs.Maps.{content}
-use Rattle.oc_slots.specs.Forms.{LiesIn, ToPutIn, IsOwn, IsTarget, Gives, header_cell, log_things}
+use Rattle.oc_slots.specs.declared.slot.SlotId.{SlotId}
+use Rattle.oc_slots.specs.Forms.{LiesIn, ToPutIn, HasForm, IsOwn, IsTarget, Gives, header_cell, log_things}
 use Rattle.oc_slots.specs.Held.{IsHeld, IsBeside, Holds, map_of}
 use Rattle.oc_slots.specs.Commits.{IsCommit}
 use Rattle.oc_slots.proofs.Apart.{beside_first}
@@ -185,23 +186,23 @@ module _ (h : Header) (old new : List Page) (d : Disk) (holds : Holds h old d) (
       page_all : first_page_of (fields (put_cells cells d.bytes)) ≡ first_page_of (fields (put_cells ws image))
       page_all = sym (first_page_same (put_cells cells d.bytes) (put_cells ws image) (λ k ge lt. header_all k (omega (arith, lt)) (inl (omega (arith, lt))) (inl (omega (arith, lt)))) (λ k ge lt. header_all k (omega (arith, lt)) (inr (omega (arith, ge))) (inl (omega (arith, lt)))) (header_all 65 (omega arith) (inr (omega arith)) (inr (omega arith))))
 
-      pub gives_with : Gives image (map_of h new (put_cells cells d.bytes))
-      gives_with = record {
-        header = fields image;
-        writes = ws;
-        pages = new;
-        form = record {
-          header = begins_changed h d.bytes image holds.header long_all raw;
-          room = subst₂ (λ u m. blocks u (length image) ≤ m) (sym unit_all) (sym (room_same h d.bytes image holds.header long_all raw))
-              (let rise = blocks_rise (unit_of h) (length image) (max d.top (log_at h1 + place.len)) pos (omega (arith, size_all, holds.disk.no_longer)) in omega (arith, rise, is.room));
-          log = put;
-          chain = subst₂ (λ u root. HasPages u (put_cells ws image) root new) (sym unit_all) page_all (pages_alike (unit_of h) (put_cells cells d.bytes) (put_cells ws image) new inside_after inside_put alike_new (first_page_of (fields (put_cells cells d.bytes))) is.chain);
-          inside = subst (λ u. All (LiesIn u (length image)) (things_of new)) (sym unit_all) inside_new;
-          apart = subst (λ u. (k : ℕ) → owners u (header_cell ∷ log_things (fields image) ws ++ things_of new) k ≤ 1) (sym unit_all) log_apart;
-          targets = targets;
-        };
-        slots = λ id. sym (slots_alike (unit_of h) (put_cells cells d.bytes) (put_cells ws image) new inside_after inside_put alike_new id.space id.number) ∙ (λ i. content (sym unit_all i) (put_cells ws image) (pointer_of new id.space id.number));
+      form_with : HasForm (fields image) ws new image
+      form_with = record {
+        header = begins_changed h d.bytes image holds.header long_all raw;
+        room = subst₂ (λ u m. blocks u (length image) ≤ m) (sym unit_all) (sym (room_same h d.bytes image holds.header long_all raw))
+            (let rise = blocks_rise (unit_of h) (length image) (max d.top (log_at h1 + place.len)) pos (omega (arith, size_all, holds.disk.no_longer)) in omega (arith, rise, is.room));
+        log = put;
+        chain = subst₂ (λ u root. HasPages u (put_cells ws image) root new) (sym unit_all) page_all (pages_alike (unit_of h) (put_cells cells d.bytes) (put_cells ws image) new inside_after inside_put alike_new (first_page_of (fields (put_cells cells d.bytes))) is.chain);
+        inside = subst (λ u. All (LiesIn u (length image)) (things_of new)) (sym unit_all) inside_new;
+        apart = subst (λ u. (k : ℕ) → owners u (header_cell ∷ log_things (fields image) ws ++ things_of new) k ≤ 1) (sym unit_all) log_apart;
+        targets = targets;
       }
+
+      slots_with : (id : SlotId) → map_of h new (put_cells cells d.bytes) id ≡ content (unit_of (fields image)) (put_cells ws image) (pointer_of new id.space id.number)
+      slots_with = λ id. sym (slots_alike (unit_of h) (put_cells cells d.bytes) (put_cells ws image) new inside_after inside_put alike_new id.space id.number) ∙ (λ i. content (sym unit_all i) (put_cells ws image) (pointer_of new id.space id.number))
+
+      pub gives_with : Gives image (map_of h new (put_cells cells d.bytes))
+      gives_with = record { header = fields image; writes = ws; pages = new; form = form_with; slots = slots_with }
 
     own_after : (k : ℕ) → IsOwn h k → get_or (settled h1 image) k 0 ≡ get_or d.bytes k 0
     own_after k own =
@@ -211,10 +212,21 @@ module _ (h : Header) (old new : List Page) (d : Disk) (holds : Holds h old d) (
     no_log_new k = omega (arith, is.apart k, sum_by-cons (λ c. cond (owns (unit_of h) k c) 1 0) place (header_cell ∷ things_of new))
 
     -- behind a closed gate
-    shut : get_or image 64 0 ≢ 1 → Gives image (map_of h new (put_cells cells d.bytes))
-    shut closed =
-        let reads : settled h1 image ≡ image = settled_closed h1 image closed in
-        gives_with [] reads refl (inl (closed, refl)) (λ k own. subst (λ l. get_or l k 0 ≡ get_or d.bytes k 0) reads (own_after k own)) no_log_new (λ k w lt. absurd (omega (arith, lt)))
+    module _ (closed : get_or image 64 0 ≢ 1) where
+      reads_shut : settled h1 image ≡ image
+      reads_shut = settled_closed h1 image closed
+
+      raw_shut : (k : ℕ) → IsOwn h k → get_or image k 0 ≡ get_or d.bytes k 0
+      raw_shut k own = subst (λ l. get_or l k 0 ≡ get_or d.bytes k 0) reads_shut (own_after k own)
+
+      pub shut_form : HasForm (fields image) [] new image
+      shut_form = form_with [] reads_shut refl (inl (closed, refl)) raw_shut no_log_new (λ k w lt. absurd (omega (arith, lt)))
+
+      pub shut_slots : (id : SlotId) → map_of h new (put_cells cells d.bytes) id ≡ content (unit_of (fields image)) image (pointer_of new id.space id.number)
+      shut_slots = slots_with [] reads_shut refl (inl (closed, refl)) raw_shut no_log_new (λ k w lt. absurd (omega (arith, lt)))
+
+      shut : Gives image (map_of h new (put_cells cells d.bytes))
+      shut = record { header = fields image; writes = []; pages = new; form = shut_form; slots = shut_slots }
 
     -- behind an open one
     module _ (gate : get_or image 64 0 ≡ 1) where

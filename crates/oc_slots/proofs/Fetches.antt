@@ -1,6 +1,5 @@
 -- Where slots lie, and that a look at the file leaves what it holds.
-use Rattle.std.proofs.Common.{◌≡◌, ◌∙◌, ℕ, ◌+◌, ◌*◌, ◌≤◌, nat_eq, List, [], ◌∷◌, ◌++◌, length, Option, Some, None, sym, ap, subst, refl, arith}
-use Rattle.std.specs.Prelude.{All}
+use Rattle.std.proofs.Common.{◌≡◌, ◌∙◌, ℕ, ◌+◌, ◌*◌, ◌≤◌, nat_eq, [], length, Some, sym, ap, subst, refl, arith}
 use Rattle.std.specs.Map.{lookup}
 use Rattle.std.specs.Option.{option_map_or}
 use Rattle.oc_layout.specs.declared.cells.Cell.{Cell}
@@ -8,16 +7,17 @@ use Rattle.oc_layout.specs.declared.cells.Header.{Header}
 use Rattle.oc_layout.specs.declared.cells.Space as spaces
 use Rattle.oc_layout.specs.declared.cells.Space.TheVariants.{Objects, System}
 use Rattle.oc_layout.specs.Layout.{unit_of}
-use Rattle.oc_host.specs.Disk.{Disk, IsDisk, Looks}
-use Rattle.oc_pages.specs.Pages.{Paged, pointer_of, things_of}
+use Rattle.oc_host.specs.Disk.{Disk, Looks}
+use Rattle.oc_pages.specs.Pages.{Paged, pointer_of}
 use Rattle.oc_room.specs.Rooms.{Space}
 use Rattle.oc_slots.specs.declared.overlay.Overlay.{Overlay}
 use Rattle.oc_slots.specs.declared.slot.Side.{Side}
 use Rattle.oc_slots.specs.declared.slot.Side.TheVariants.{Committed, Session}
 use Rattle.oc_slots.specs.declared.slot.SlotId.{SlotId}
+use Rattle.oc_slots.specs.Cached.{Cached}
 use Rattle.oc_slots.specs.Slots.{changes_of}
-use Rattle.oc_slots.specs.Stores.{Slots, Agrees, changes_in, place_on}
-use Rattle.oc_slots.proofs.SessionBytes.{place_in, place_has}
+use Rattle.oc_slots.specs.Stores.{Slots, Agrees, AreRead, changes_in, place_on}
+use Rattle.oc_slots.proofs.SessionBytes.{place_has}
 use Rattle.oc_slots.proofs.SessionSteps.{seen}
 use Rattle.oc_slots.proofs.Things.{pointed}
 
@@ -43,7 +43,16 @@ agrees_looks s d e looks agrees = subst (Agrees s) (looked_is d e looks) (record
   };
   len = agrees.len;
   fresh = agrees.fresh;
+  cached = agrees.cached;
 })
+
+-- whatever is kept, the rest of what the store and the file say of each other stays
+pub agrees_bare : (s : Slots) (d : Disk) → Agrees s d → Agrees (record s { cached = [] }) d
+agrees_bare s d agrees = record { holds = agrees.holds; len = agrees.len; fresh = agrees.fresh; cached = λ k x lt. absurd (omega (arith, lt)) }
+
+-- other slots may be kept, if they were read from the file
+pub agrees_with : (s : Slots) (d : Disk) (es : Cached) → Agrees s d → AreRead (unit_of s.header) d.bytes es → Agrees (record s { cached = es }) d
+agrees_with s d es agrees read = record { holds = agrees.holds; len = agrees.len; fresh = agrees.fresh; cached = read }
 
 module _ (h : Header) (pages : Paged) (o : Overlay) (room : Space) (len : ℕ) (d : Disk) (agrees : Agrees (seen h pages o room len) d) where
   same_space : (space : spaces.Space) → changes_in (seen h pages o room len) space ≡ changes_of o space

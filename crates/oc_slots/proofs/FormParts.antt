@@ -70,7 +70,7 @@ is_closed h = elim (cases_Bool (h.gate == 1)) [ inl e ↦ (λ (is : (with_closed
     other e is = let same : (with_closed h).gate ≡ h.gate = rw e refl in grind (arith, nat_tests, e, same, is)
 
 -- a write's own cell is read again
-written : (b : List ℕ) (w : CellWrite) → w.target + 8 ≤ length b → FitsCell w.cell → first_cell (drop w.target (over w.target (cell_bytes w.cell) b)) ≡ w.cell
+pub written : (b : List ℕ) (w : CellWrite) → w.target + 8 ≤ length b → FitsCell w.cell → first_cell (drop w.target (over w.target (cell_bytes w.cell) b)) ≡ w.cell
 written b w le fits =
     let c = over w.target (cell_bytes w.cell) b in
     sym (first_same (drop w.target c) (take 8 (drop w.target c)) (λ k lt. get_or-take 8 (drop w.target c) k 0 lt))

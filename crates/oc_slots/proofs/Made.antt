@@ -19,7 +19,7 @@ use Rattle.oc_slots.specs.declared.slot.Making.{Making}
 use Rattle.oc_slots.specs.Attaching.{IsMaking, StaysShort, made_header, with_blocks, plain_header}
 use Rattle.oc_slots.specs.Forms.{Begins, HasForm, LiesIn, header_cell}
 use Rattle.oc_slots.specs.Slots.{places_in}
-use Rattle.oc_slots.specs.Stores.{Slots, Agrees}
+use Rattle.oc_slots.specs.Stores.{Slots, Agrees, AreRead}
 use Rattle.oc_slots.proofs.FirstBytes.{spelled_begins}
 use Rattle.oc_slots.proofs.Formed.{formed_holds}
 use Rattle.oc_slots.proofs.Headers.{unit_some}
@@ -105,13 +105,14 @@ module _ (m : Making) (is : IsMaking m) where
     targets = λ k d lt. absurd (omega (arith, lt));
   }
 
-  pub made_agrees : (s : Slots) (d : Disk) → s.header ≡ made_header m → s.pages ≡ [] → s.len ≡ 128 → s.objects ≡ [] → s.system ≡ [] → d.bytes ≡ header_bytes (made_header m) → IsSynced d → IsDisk d → Agrees s d
-  made_agrees s d header pages len objects system file is_synced sound = record {
+  pub made_agrees : (s : Slots) (d : Disk) → s.header ≡ made_header m → s.pages ≡ [] → s.len ≡ 128 → s.objects ≡ [] → s.system ≡ [] → s.cached ≡ [] → d.bytes ≡ header_bytes (made_header m) → IsSynced d → IsDisk d → Agrees s d
+  made_agrees s d header pages len objects system kept file is_synced sound = record {
     holds = formed_holds s.header s.pages d
         (subst (λ b. HasForm s.header [] s.pages b) (sym file) (subst (λ l. HasForm s.header [] l (header_bytes (made_header m))) (sym pages) (subst (λ x. HasForm x [] [] (header_bytes (made_header m))) (sym header) made_form)))
         is_synced sound (λ opened. absurd (omega (arith, made_gate m, ap (λ (x : Header). x.gate) header, opened)));
     len = len ∙ sym (ap length file);
     fresh = subst (All (LiesIn (unit_of s.header) s.len)) (λ i. places_in (sym objects i) ++ places_in (sym system i)) (λ k d lt. absurd (omega (arith, lt)));
+    cached = subst (AreRead (unit_of s.header) d.bytes) (sym kept) (λ k e lt. absurd (omega (arith, lt)));
   }
 
 -- ---- what a stop leaves meanwhile

@@ -7,6 +7,7 @@ use Rattle.std.proofs.lemmas.List.Elements.{All-cons}
 use Rattle.std.proofs.lemmas.Bool.Decides.{nat_tests}
 use Rattle.oc_layout.specs.declared.cells.Cell.{Cell}
 use Rattle.oc_layout.specs.Layout.{blocks}
+use Rattle.oc_layout.proofs.Blocks.{blocks_reach}
 use Rattle.oc_host.specs.Disk.{over}
 use Rattle.oc_log.specs.Log.{slice}
 use Rattle.oc_log.proofs.Bytes.{length-over, over_out, slice_same, slice_over}
@@ -53,6 +54,14 @@ module _ (unit : ℕ) (pos : 0 < unit) where
     | at_end e lt ↦ omega (arith, e, lt)
     | at_start e le ↦ omega (arith, e)
     | behind p is on e le ↦ omega (arith, e, ends_before unit p.at p.len c.at pos (omega (arith, on)))
+  ]
+
+  -- less than a block is filled before a slot that begins no later than the block behind the file
+  pub from_near : (len : ℕ) (before : Option Cell) (c : Cell) → c.at ≤ blocks unit len → c.at * unit < from unit len before c + unit
+  from_near len before c near = elim (begins unit len before c) [
+    | at_end e lt ↦ omega (arith, e, blocks_reach unit len c.at pos near)
+    | at_start e le ↦ omega (arith, e, pos)
+    | behind p is on e le ↦ omega (arith, e, blocks_reach unit p.len (blocks unit p.len) pos (omega arith), ap (λ n. n * unit) on)
   ]
 
   from_end : (len : ℕ) (before : Option Cell) (c : Cell) → from unit len before c ≤ len

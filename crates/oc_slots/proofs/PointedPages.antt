@@ -1,6 +1,6 @@
 -- Cells that are put into pages one after another, in memory and in a file.
-use Rattle.std.proofs.Common.{◌≡◌, ◌∙◌, inl, inr, ℕ, zero, suc, ◌+◌, ◌*◌, ◌<◌, ◌≤◌, Bool, true, false, cond, List, [], ◌∷◌, ◌++◌, length, map, get_or, Option, Some, None, sym, ap, subst, refl, arith}
-use Rattle.std.specs.Prelude.{All, AllPairs, Contains, IsSome, sum_by, if◌then◌else◌}
+use Rattle.std.proofs.Common.{◌≡◌, ◌∙◌, inl, inr, ℕ, suc, ◌+◌, ◌*◌, ◌<◌, Bool, true, false, List, [], ◌∷◌, ◌++◌, length, get_or, Option, Some, None, sym, ap, subst, refl, arith}
+use Rattle.std.specs.Prelude.{All, AllPairs, IsSome, sum_by, if◌then◌else◌}
 use Rattle.std.specs.Option.{option_map, option_to_list}
 use Rattle.std.proofs.lemmas.Bool.{cases_Bool}
 use Rattle.std.proofs.lemmas.Bool.Decides.{nat_tests}
@@ -13,12 +13,14 @@ use Rattle.oc_layout.specs.Layout.{FitsCell, cell_bytes}
 use Rattle.oc_host.specs.Disk.{over}
 use Rattle.oc_log.specs.Log.{put_cells}
 use Rattle.oc_pages.specs.declared.page.Page.{Page}
-use Rattle.oc_pages.specs.Pages.{holds, with_cell, with_pointer, target_of, pointer_in, pointer_of, page_holding, things_of, is_page, IsOther, space_number}
+use Rattle.oc_pages.specs.Pages.{holds, slot_in, with_cell, with_pointer, target_of, pointer_in, pointer_of, page_holding, things_of, is_page, IsOther, space_number}
 use Rattle.oc_pages.specs.Chains.{Chain, AreApart}
 use Rattle.oc_pages.proofs.Changes.{with_held, with_other}
-use Rattle.oc_pages.proofs.ChainLaws.{chain_set}
+use Rattle.oc_pages.proofs.ChainLaws.{chain_set, with_none}
+use Rattle.oc_pages.proofs.Lookups.{nothing_found}
 use Rattle.oc_pages.proofs.PointerLaws.{HasCells, target_set, cells_kept, holder_set, pointer_set_here, pointer_set_other, things_set}
-use Rattle.oc_slots.specs.Pointings.{Pointing, set_all, writes_of, AreAt, AreHeld, AreDistinct, pointed_place, cells_in, replaced}
+use Rattle.oc_slots.specs.declared.turnover.Pointing.{Pointing}
+use Rattle.oc_slots.specs.Pointings.{set_all, writes_of, AreAt, AreHeld, AreDistinct, pointed_place, cells_in, replaced}
 use Rattle.oc_slots.specs.declared.slot.SlotId.{SlotId}
 use Rattle.oc_slots.specs.Maps.{is_same}
 use Rattle.oc_slots.proofs.Things.{tail_of}
@@ -51,18 +53,36 @@ apart_set unit p pages apart i j d lt inside =
     let b = ap (λ (x : Page). x.at) two ∙ (same_page p (get_or pages j d)).0 in
     elim (apart i j d lt n) [ inl before ↦ inl (omega (arith, before, ap (λ n. n * unit) a, ap (λ n. n * unit) b)) | inr after ↦ inr (omega (arith, after, ap (λ n. n * unit) a, ap (λ n. n * unit) b)) ]
 
-at_set : (unit : ℕ) (p : Pointing) (pages : List Page) (ps : List Pointing) → AreAt unit pages ps → AreAt unit (with_pointer p.id.space p.id.number p.cell pages) ps
+pub at_set : (unit : ℕ) (p : Pointing) (pages : List Page) (ps : List Pointing) → AreAt unit pages ps → AreAt unit (with_pointer p.id.space p.id.number p.cell pages) ps
 at_set unit p pages ps at k d lt = target_set unit p.id.space (get_or ps k d).id.space p.id.number (get_or ps k d).id.number p.cell pages ∙ at k d lt
+
+-- where no page holds the number the pages stay as they are
+unheld : (unit : ℕ) (space : Space) (number : ℕ) (cell : Cell) (pages : List Page) → target_of unit pages space number ≡ None → with_pointer space number cell pages ≡ pages
+unheld unit space number cell pages none = by_holder (page_holding pages space number) refl
+  where
+    by_holder : (o : Option Page) → page_holding pages space number ≡ o → with_pointer space number cell pages ≡ pages
+    by_holder None e = with_none space number cell pages (nothing_found (holds space number) pages e)
+    by_holder (Some q) e =
+        let no_way : ◌≡◌ {A = Option ℕ} (Some (q.at * unit + 16 + 8 * slot_in q number)) None = ap (option_map (λ (x : Page). x.at * unit + 16 + 8 * slot_in x number)) (sym e) ∙ none in
+        absurd (cc no_way)
+
+-- the file with this cell, if it has a target, and those of the others
+abbrev put_at : Cell → List Pointing → List ℕ → Option ℕ → List ℕ
+put_at cell ps image t = put_cells (option_to_list (option_map (λ target. record { target = target; cell = cell }) t) ++ writes_of ps) image
 
 -- the chain of a file into which the cells are put is that of the pages with them
 pub chain_all : (unit : ℕ) (image : List ℕ) (root : Cell) (pages : List Page) (ps : List Pointing) → Chain unit image root pages → AllPairs IsOther pages → AllPairs (AreApart unit) pages → AreAt unit pages ps → All (λ p. FitsCell p.cell) ps
     → Chain unit (put_cells (writes_of ps) image) root (set_all ps pages)
 chain_all unit image root pages [] chain distinct apart at fits = chain
 chain_all unit image root pages (p ∷ ps) chain distinct apart at fits =
-    chain_all unit (over p.target (cell_bytes p.cell) image) root (with_pointer p.id.space p.id.number p.cell pages) ps
-    (chain_set unit image root pages p.id.space p.id.number p.cell p.target (fits 0 p (omega arith)) chain distinct apart (at 0 p (omega arith)))
-    (distinct_set p pages distinct) (apart_set unit p pages apart)
-    (at_set unit p pages ps (tail_of (λ x. target_of unit pages x.id.space x.id.number ≡ Some x.target) p ps at)) (tail_of (λ x. FitsCell x.cell) p ps fits)
+    let next = with_pointer p.id.space p.id.number p.cell pages in
+    by_target (λ b here. chain_all unit b root next ps here (distinct_set p pages distinct) (apart_set unit p pages apart) (at_set unit p pages ps (tail_of (λ x. target_of unit pages x.id.space x.id.number ≡ x.target) p ps at)) (tail_of (λ x. FitsCell x.cell) p ps fits)) p.target refl
+  where
+    by_target : ((b : List ℕ) → Chain unit b root (with_pointer p.id.space p.id.number p.cell pages) → Chain unit (put_cells (writes_of ps) b) root (set_all (p ∷ ps) pages)) → (t : Option ℕ) → p.target ≡ t → Chain unit (put_at p.cell ps image p.target) root (set_all (p ∷ ps) pages)
+    by_target later None e = subst (λ (t : Option ℕ). Chain unit (put_at p.cell ps image t) root (set_all (p ∷ ps) pages)) (sym e)
+        (later image (subst (λ (l : List Page). Chain unit image root l) (sym (unheld unit p.id.space p.id.number p.cell pages (at 0 p (omega arith) ∙ e))) chain))
+    by_target later (Some target) e = subst (λ (t : Option ℕ). Chain unit (put_at p.cell ps image t) root (set_all (p ∷ ps) pages)) (sym e)
+        (later (over target (cell_bytes p.cell) image) (chain_set unit image root pages p.id.space p.id.number p.cell target (fits 0 p (omega arith)) chain distinct apart (at 0 p (omega arith) ∙ e)))
 
 pub cells_all : (ps : List Pointing) (pages : List Page) → All HasCells pages → All HasCells (set_all ps pages)
 cells_all [] pages sizes = sizes
@@ -83,7 +103,7 @@ same_true a b s n = grind (arith, nat_tests, s, n)
 clash : false ≡ true → ⊥
 clash e = cc
 
-held_set : (p : Pointing) (pages : List Page) (ps : List Pointing) → AreHeld pages ps → AreHeld (with_pointer p.id.space p.id.number p.cell pages) ps
+pub held_set : (p : Pointing) (pages : List Page) (ps : List Pointing) → AreHeld pages ps → AreHeld (with_pointer p.id.space p.id.number p.cell pages) ps
 held_set p pages ps held k d lt = subst IsSome (sym (holder_set p.id.space (get_or ps k d).id.space p.id.number (get_or ps k d).id.number p.cell pages)) (still (page_holding pages (get_or ps k d).id.space (get_or ps k d).id.number) (held k d lt))
   where
     still : (o : Option Page) → IsSome o → IsSome (option_map (with_cell p.id.space p.id.number p.cell) o)

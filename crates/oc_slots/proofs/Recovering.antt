@@ -28,7 +28,7 @@ use Rattle.oc_slots.specs.Forms.{LiesIn, HasForm, Gives, IsOwn, header_cell, log
 use Rattle.oc_slots.specs.Held.{IsBeside, Holds, map_of}
 use Rattle.oc_slots.specs.Maps.{SlotMap, Same, content}
 use Rattle.oc_slots.specs.Slots.{places_in}
-use Rattle.oc_slots.specs.Stores.{Slots, Agrees}
+use Rattle.oc_slots.specs.Stores.{Slots, Agrees, AreRead}
 use Rattle.oc_slots.proofs.Changed.{unit_same, room_same, wide_same, root_same, begins_changed, first_page_same}
 use Rattle.oc_slots.proofs.Committing.{gives_new}
 use Rattle.oc_slots.proofs.Formed.{formed_holds}
@@ -77,7 +77,7 @@ log_moved g h ws b unit wide log has = record {
     targets_moved n t = record { within = t.within; gate = t.gate; cell = t.cell; place = subst (λ m. AllClear m g.log.len ws) (sym at) (subst (λ m. AllClear (log_at h) m ws) (sym len) t.place) }
 
 -- the header's own bytes are in no target
-own_apart : (h : Header) (len k : ℕ) (ws : List CellWrite) → IsOwn h k → All (SuitsTarget h len) ws → AllApart k ws
+pub own_apart : (h : Header) (len k : ℕ) (ws : List CellWrite) → IsOwn h k → All (SuitsTarget h len) ws → AllApart k ws
 own_apart h len k [] own suit = tt
 own_apart h len k (w ∷ ws) own suit = (
   elim (All-head (SuitsTarget h len) w ws suit) [
@@ -332,11 +332,12 @@ module _ (h : Header) (ws : List CellWrite) (s : Slots) (b : List ℕ) (is : IsJ
 
 -- ---- the store of a file that is at rest
 
-pub rest_agrees : (s : Slots) (d : Disk) → HasForm s.header [] s.pages d.bytes → s.header.gate ≢ 1 → s.len ≡ length d.bytes → s.objects ≡ [] → s.system ≡ [] → IsSynced d → IsDisk d → Agrees s d
-rest_agrees s d form closed len objects system synced sound = record {
+pub rest_agrees : (s : Slots) (d : Disk) → HasForm s.header [] s.pages d.bytes → s.header.gate ≢ 1 → s.len ≡ length d.bytes → s.objects ≡ [] → s.system ≡ [] → s.cached ≡ [] → IsSynced d → IsDisk d → Agrees s d
+rest_agrees s d form closed len objects system kept synced sound = record {
   holds = formed_holds s.header s.pages d form synced sound closed;
   len = len;
   fresh = subst (All (LiesIn (unit_of s.header) s.len)) (λ i. places_in (sym objects i) ++ places_in (sym system i)) (λ k d lt. absurd (omega (arith, lt)));
+  cached = subst (AreRead (unit_of s.header) d.bytes) (sym kept) (λ k e lt. absurd (omega (arith, lt)));
 }
 
 pub rest_map : (s : Slots) (b : List ℕ) → HasForm s.header [] s.pages b → (m : SlotMap) → Gives b m → Same (map_of s.header s.pages b) m

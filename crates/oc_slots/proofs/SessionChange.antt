@@ -59,7 +59,7 @@ grows unit len [] = omega arith
 grows unit len (s ∷ ss) = omega (arith, grows unit (max len (end_of unit s)) ss)
 
 -- each slot ends in the file as it will be
-ends_in : (unit len : ℕ) (ss : List Slot) (i : ℕ) (d : Slot) → i < length ss → end_of unit (get_or ss i d) ≤ end_after unit len ss
+pub ends_in : (unit len : ℕ) (ss : List Slot) (i : ℕ) (d : Slot) → i < length ss → end_of unit (get_or ss i d) ≤ end_after unit len ss
 ends_in unit len [] i d lt = absurd (omega (arith, lt))
 ends_in unit len (s ∷ ss) zero d lt = omega (arith, grows unit (max len (end_of unit s)) ss)
 ends_in unit len (s ∷ ss) (suc i) d lt = ends_in unit (max len (end_of unit s)) ss i d (omega (arith, lt))
@@ -87,7 +87,7 @@ numbers_noted (p ∷ ps) space cs are all =
     go true e = rw e (numbers_put cs p.id.number (place_of p) (are 0 p (omega arith)) all)
     go false e = rw e all
 
-numbers_of : (changes : List SlotChange) (ps : List PlacedChange) → map change_of ps ≡ changes → All (λ c. (1 ≤ c.id.number) × (c.id.number ≤ 2147483646)) changes → All (λ p. (1 ≤ p.id.number) × (p.id.number ≤ 2147483646)) ps
+pub numbers_of : (changes : List SlotChange) (ps : List PlacedChange) → map change_of ps ≡ changes → All (λ c. (1 ≤ c.id.number) × (c.id.number ≤ 2147483646)) changes → All (λ p. (1 ≤ p.id.number) × (p.id.number ≤ 2147483646)) ps
 numbers_of changes ps are all i d lt =
     subst (λ c. (1 ≤ c.id.number) × (c.id.number ≤ 2147483646)) (get_or-map change_of ps i d (change_of d) lt)
     (subst (All (λ c. (1 ≤ c.id.number) × (c.id.number ≤ 2147483646))) (sym are) all i (change_of d) (omega (arith, lt, length-map ps change_of)))

@@ -16,13 +16,8 @@ use Rattle.oc_slots.specs.declared.slot.SlotId.{SlotId}
 use Rattle.oc_slots.specs.declared.slot.SlotChange.{SlotChange}
 use Rattle.oc_slots.specs.Maps.{SlotMap, is_same, changed, bytes_at, content}
 use Rattle.oc_slots.specs.Slots.{Changes, put_change, change_of, slots_of}
-use Rattle.oc_slots.specs.Noting.{noted, place_of}
+use Rattle.oc_slots.specs.Noting.{noted, place_of, placed_place}
 use Rattle.oc_slots.proofs.Things.{tail_of}
-
--- where a slot is by these changes, and else here
-abbrev pub placed_place : List PlacedChange → SlotId → Option Cell → Option Cell
-placed_place [] id base = base
-placed_place (p ∷ ps) id base = if is_same p.id id then place_of p else placed_place ps id base
 
 -- what is looked up once an entry is put
 lookup_put : (cs : Changes) (m : ℕ) (o : Option Cell) (n : ℕ) → lookup (nat_eq n) (insert_entry nat_eq cs m o) ≡ (if n == m then Some o else lookup (nat_eq n) cs)
@@ -45,7 +40,7 @@ lookup_put (e ∷ es) m o n = elim (cases_eq m e.0) [
       ])
 ]
 
-is_true : (a b : SlotId) → is_same a b ≡ true → (space_number a.space ≡ space_number b.space) × (a.number ≡ b.number)
+pub is_true : (a b : SlotId) → is_same a b ≡ true → (space_number a.space ≡ space_number b.space) × (a.number ≡ b.number)
 is_true a b e = (grind (arith, nat_tests, e), grind (arith, nat_tests, e))
 
 same_true : (a b : SlotId) → space_number a.space ≡ space_number b.space → a.number ≡ b.number → is_same a b ≡ true
@@ -75,7 +70,7 @@ put_same id p o cs same =
     let number : (id.number == p.number) ≡ true = grind (arith, nat_tests, both.1) in
     rw space (lookup_put cs p.number o id.number ∙ rw number refl)
 
-put_other : (id : SlotId) (p : SlotId) (o : Option Cell) (cs : Changes) → is_same p id ≡ false → lookup (nat_eq id.number) (put_change p o id.space cs) ≡ lookup (nat_eq id.number) cs
+pub put_other : (id : SlotId) (p : SlotId) (o : Option Cell) (cs : Changes) → is_same p id ≡ false → lookup (nat_eq id.number) (put_change p o id.space cs) ≡ lookup (nat_eq id.number) cs
 put_other id p o cs other = elim (cases_eq (space_number id.space) (space_number p.space)) [
   | inl here ↦
       let space : (space_number id.space == space_number p.space) ≡ true = grind (arith, nat_tests, here) in

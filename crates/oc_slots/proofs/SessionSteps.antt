@@ -1,6 +1,6 @@
 -- The steps of a change: what each gives for the next.
 use Rattle.std.proofs.Common.{◌≡◌, ◌∙◌, nat_eq, subst₂, ℕ, ◌+◌, ◌*◌, ◌<◌, ◌≤◌, List, [], ◌∷◌, ◌++◌, length, map, get_or, sym, ap, subst, refl, arith}
-use Rattle.std.specs.Prelude.{All, AllPairs, Contains}
+use Rattle.std.specs.Prelude.{All, Contains}
 use Rattle.oc_layout.specs.declared.cells.Cell.{Cell}
 use Rattle.oc_layout.specs.declared.cells.Header.{Header}
 use Rattle.std.specs.Map.{lookup}
@@ -21,21 +21,21 @@ use Rattle.oc_slots.specs.declared.run.Planned.{Planned}
 use Rattle.oc_slots.specs.declared.slot.SlotChange.{SlotChange}
 use Rattle.oc_slots.specs.declared.slot.SlotId.{SlotId}
 use Rattle.oc_slots.specs.Maps.{Same, changed, content}
-use Rattle.oc_slots.specs.Forms.{header_cell}
+use Rattle.oc_slots.specs.Forms.{LiesIn, header_cell}
 use Rattle.oc_slots.specs.Slots.{changes_of, change_of, slots_of, cells_of}
-use Rattle.oc_slots.specs.Stores.{Slots, Agrees, AreChanges, IsWhole, changes_in, fresh_of, session}
-use Rattle.oc_slots.specs.Noting.{noted, IsSession}
+use Rattle.oc_slots.specs.Stores.{Slots, Agrees, AreChanges, IsWhole, changes_in, fresh_of, session, parts}
+use Rattle.oc_slots.specs.Noting.{noted, place_in, IsSession}
 use Rattle.oc_slots.specs.Pieces.{as_pieces, over_all, Fit, IsPlanned, end_of, end_after}
 use Rattle.oc_slots.specs.Writing.{AreFree, Keeps}
-use Rattle.oc_slots.proofs.Noted.{left_of, right_of, owners_append}
+use Rattle.oc_slots.proofs.Noted.{right_of, owners_append}
 use Rattle.oc_slots.proofs.Tilings.{tiles_within, each_once}
-use Rattle.oc_slots.proofs.SessionChange.{fresh_same, some_placed, cells_some, session_ready, whole_noted, once, tiled, all_some, slot_ends, r_unit, new_some}
-use Rattle.oc_slots.proofs.SessionBytes.{place_in, runs_fit, runs_free, size_after, base_kept, lie_after, slots_have}
+use Rattle.oc_slots.proofs.SessionChange.{fresh_same, some_placed, cells_some, session_ready, whole_noted, once, slot_ends, r_unit}
+use Rattle.oc_slots.proofs.SessionBytes.{runs_fit, runs_free, size_after, base_kept, lie_after, slots_have}
 use Rattle.oc_slots.proofs.SessionMap.{noted_place, changed_there, distinct_of}
 
--- the parts of a store as contracts see them
+-- the parts of a store that keeps nothing
 abbrev pub seen : Header → Paged → Overlay → Space → ℕ → Slots
-seen h pages o room len = record { header = h; pages = pages.pages; objects = o.objects.entries; system = o.system.entries; room = room; len = len }
+seen h pages o room len = parts h pages o room len []
 
 -- no more slots are the session's own than the file may have blocks
 pub few_fresh : (h : Header) (pages : Paged) (o : Overlay) (room : Space) (fresh len : ℕ) → IsWhole h pages o room fresh len → fresh ≤ room.limit
@@ -78,20 +78,20 @@ module _ (h : Header) (pages : Paged) (o p : Overlay) (room r : Space) (fresh le
   units : r.unit ≡ unit_of h
   units = r_unit h pages o p room r fresh len changes ps f.whole f.is f.are f.sizes f.opened f.back f.spare f.same f.unit f.limit f.is_room
 
-  pos_unit : 0 < unit_of h
+  pub pos_unit : 0 < unit_of h
   pos_unit = subst (λ u. 0 < u) units f.is_room.unit
 
-  once_unit : (k : ℕ) → owners (unit_of h) (((header_cell ∷ things_of pages.pages) ++ fresh_of o) ++ cells_of ps) k ≤ 1
+  pub once_unit : (k : ℕ) → owners (unit_of h) (((header_cell ∷ things_of pages.pages) ++ fresh_of o) ++ cells_of ps) k ≤ 1
   once_unit k = subst₂ (λ u l. owners u (((header_cell ∷ things_of pages.pages) ++ l) ++ cells_of ps) k ≤ 1) units (fresh_same o p f.same)
       (omega (arith, once h pages o p room r fresh len changes ps f.whole f.is f.are f.sizes f.opened f.back f.spare f.same f.unit f.limit f.is_room k))
 
-  ends_unit : (i : ℕ) (d : Slot) → i < length (slots_of ps) → end_of (unit_of h) (get_or (slots_of ps) i d) ≤ r.end * unit_of h
+  pub ends_unit : (i : ℕ) (d : Slot) → i < length (slots_of ps) → end_of (unit_of h) (get_or (slots_of ps) i d) ≤ r.end * unit_of h
   ends_unit i d lt = subst (λ u. end_of u (get_or (slots_of ps) i d) ≤ r.end * u) units (slot_ends h pages o p room r fresh len changes ps f.whole f.is f.are f.sizes f.opened f.back f.spare f.same f.unit f.limit f.is_room i d lt)
 
-  slots_some : All (λ s. 1 ≤ s.cell.len) (slots_of ps)
+  pub slots_some : All (λ s. 1 ≤ s.cell.len) (slots_of ps)
   slots_some = some_placed changes ps f.are f.is.some f.sizes
 
-  in_room : r.end ≤ room_of h
+  pub in_room : r.end ≤ room_of h
   in_room = omega (arith, f.is_room.end, f.limit, f.whole.limit)
 
   module _ (q : Overlay) (t : Space) (n : ℕ) (g : IsNoted p q r t n ps) where
@@ -101,18 +101,19 @@ module _ (h : Header) (pages : Paged) (o p : Overlay) (room r : Space) (fresh le
 
   module _ (d : Disk) (agrees : Agrees (seen h pages o room len) d) where
     pub fits : Fit (as_pieces planned.runs.items) d.bytes
-    fits = runs_fit h pages.pages o len r.end (slots_of ps) planned pos_unit f.sizes slots_some (cells_some (slots_of ps) slots_some) f.whole.some once_unit f.plan ends_unit in_room d agrees.holds agrees.len agrees.fresh
+    fits = runs_fit h pages.pages o len r.end (slots_of ps) (as_pieces planned.runs.items) pos_unit f.sizes slots_some (cells_some (slots_of ps) slots_some) f.whole.some once_unit f.plan.runs ends_unit in_room d agrees.holds agrees.len agrees.fresh
 
     pub frees : AreFree h pages.pages (as_pieces planned.runs.items)
-    frees = runs_free h pages.pages o len r.end (slots_of ps) planned pos_unit f.sizes slots_some (cells_some (slots_of ps) slots_some) f.whole.some once_unit f.plan ends_unit in_room d agrees.holds agrees.len agrees.fresh
+    frees = runs_free h pages.pages o len r.end (slots_of ps) (as_pieces planned.runs.items) pos_unit f.sizes slots_some (cells_some (slots_of ps) slots_some) f.whole.some once_unit f.plan.runs ends_unit in_room d agrees.holds agrees.len agrees.fresh
 
     module _ (q : Overlay) (t : Space) (n : ℕ) (g : IsNoted p q r t n ps) (e : Disk) (wrote : e.bytes ≡ over_all (as_pieces planned.runs.items) d.bytes) (keeps : Keeps h pages.pages d e) where
       pub agrees_after : Agrees (seen h pages q t planned.end) e
       agrees_after = record {
         holds = keeps.holds agrees.holds;
-        len = size_after h pages.pages o len r.end (slots_of ps) planned pos_unit f.sizes slots_some (cells_some (slots_of ps) slots_some) f.whole.some once_unit f.plan ends_unit in_room d agrees.holds agrees.len agrees.fresh e wrote;
-        fresh = lie_after h pages.pages o len r.end (slots_of ps) planned pos_unit f.sizes slots_some (cells_some (slots_of ps) slots_some) f.whole.some once_unit f.plan ends_unit in_room d agrees.holds agrees.len agrees.fresh e wrote q
-            (λ c there. subst (λ l. Contains (l ++ cells_of ps) c) (fresh_same o p f.same) (g.members c there));
+        len = f.plan.end ∙ size_after h pages.pages o len r.end (slots_of ps) (as_pieces planned.runs.items) pos_unit f.sizes slots_some (cells_some (slots_of ps) slots_some) f.whole.some once_unit f.plan.runs ends_unit in_room d agrees.holds agrees.len agrees.fresh e wrote;
+        fresh = subst (λ n. All (LiesIn (unit_of h) n) (fresh_of q)) (sym f.plan.end) (lie_after h pages.pages o len r.end (slots_of ps) (as_pieces planned.runs.items) pos_unit f.sizes slots_some (cells_some (slots_of ps) slots_some) f.whole.some once_unit f.plan.runs ends_unit in_room d agrees.holds agrees.len agrees.fresh e wrote q
+            (λ c there. subst (λ l. Contains (l ++ cells_of ps) c) (fresh_same o p f.same) (g.members c there)));
+        cached = λ k x lt. absurd (omega (arith, lt));
       }
 
       pub session_after : Same (session (seen h pages q t planned.end) e) (changed changes (session (seen h pages o room len) d))
@@ -120,8 +121,8 @@ module _ (h : Header) (pages : Paged) (o p : Overlay) (room r : Space) (fresh le
           ap (λ cs. content (unit_of h) e.bytes (option_map_or (λ x. x) (lookup (nat_eq id.number) cs) (pointer_of pages.pages id.space id.number))) (in_space id.space ∙ g.changes_are id.space ∙ ap (noted ps id.space) (f.same id.space))
           ∙ ap (content (unit_of h) e.bytes) (noted_place ps id (changes_of o id.space) (pointer_of pages.pages id.space id.number) (distinct_of changes ps f.are f.is.distinct))
           ∙ changed_there (unit_of h) e.bytes (session (seen h pages o room len) d) ps id (place_in pages.pages o id)
-          (slots_have h pages.pages o len r.end (slots_of ps) planned pos_unit f.sizes slots_some (cells_some (slots_of ps) slots_some) f.whole.some once_unit f.plan ends_unit in_room d agrees.holds agrees.len agrees.fresh e wrote)
-          (base_kept h pages.pages o len r.end (slots_of ps) planned pos_unit f.sizes slots_some (cells_some (slots_of ps) slots_some) f.whole.some once_unit f.plan ends_unit in_room d agrees.holds agrees.len agrees.fresh e wrote id ∙ old_session id)
+          (slots_have h pages.pages o len r.end (slots_of ps) (as_pieces planned.runs.items) pos_unit f.sizes slots_some (cells_some (slots_of ps) slots_some) f.whole.some once_unit f.plan.runs ends_unit in_room d agrees.holds agrees.len agrees.fresh e wrote)
+          (base_kept h pages.pages o len r.end (slots_of ps) (as_pieces planned.runs.items) pos_unit f.sizes slots_some (cells_some (slots_of ps) slots_some) f.whole.some once_unit f.plan.runs ends_unit in_room d agrees.holds agrees.len agrees.fresh e wrote id ∙ old_session id)
           ∙ ap (λ cs. changed cs (session (seen h pages o room len) d) id) f.are
         where
           in_space : (space : spaces.Space) → changes_in (seen h pages q t planned.end) space ≡ changes_of q space

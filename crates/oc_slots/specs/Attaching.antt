@@ -3,8 +3,8 @@ use Rattle.std.specs.Prelude.{◌≡◌, ◌≢◌, ◌⊎◌, ◌≤◌, ℕ, �
 use Rattle.oc_layout.specs.declared.cells.CellWrite.{CellWrite}
 use Rattle.oc_layout.specs.declared.cells.Header.{Header}
 use Rattle.oc_layout.specs.Layout.{unit_of, room_of, is_wide, blocks, read_writes, FitsCell}
-use Rattle.oc_host.specs.Disk.{Disk}
-use Rattle.oc_log.specs.Log.{slice, log_at}
+use Rattle.oc_host.specs.Disk.{Disk, over}
+use Rattle.oc_log.specs.Log.{slice, log_at, put_cells}
 use Rattle.oc_pages.specs.declared.page.Page.{Page}
 use Rattle.oc_pages.specs.Pages.{no_cell, things_of}
 use Rattle.oc_room.specs.Rooms.{owners}
@@ -121,6 +121,13 @@ pub record IsJudged (h : Header) (ws : List CellWrite) (s : Slots) (b : List ℕ
   pub len : s.len ≡ length b
   pub objects : s.objects ≡ []
   pub system : s.system ≡ []
+
+-- The file was of the form and is attached: the store has its pages and its header with the writes put in, and the file the old bytes, where a log was
+-- open with the writes put in and the gate closed.
+pub record IsFound (h : Header) (ws : List CellWrite) (ps : List Page) (s : Slots) (old new : List ℕ) : Type 0 where
+  pub header : s.header ≡ with_closed (with_cells h ws)
+  pub pages : s.pages ≡ ps
+  pub bytes : new ≡ (if h.gate == 1 then over 64 (0 ∷ []) (put_cells ws old) else old)
 
 -- A stop leaves what was said, and a file that gives each map that the file gave.
 pub record StillGives (d : Disk) (image said : List ℕ) : Type 0 where

@@ -1,5 +1,5 @@
 -- What a commit puts in by its log.
-use Rattle.std.specs.Prelude.{◌≤◌, ℕ, ◌+◌, max, List, ◌∷◌, length, All}
+use Rattle.std.specs.Prelude.{◌≡◌, ◌⊎◌, ◌≤◌, ℕ, ◌+◌, max, List, ◌∷◌, length, All}
 use Rattle.oc_layout.specs.declared.cells.Cell.{Cell}
 use Rattle.oc_layout.specs.declared.cells.CellWrite.{CellWrite}
 use Rattle.oc_layout.specs.declared.cells.Header.{Header}
@@ -11,7 +11,10 @@ use Rattle.oc_pages.specs.declared.page.Page.{Page}
 use Rattle.oc_pages.specs.Pages.{things_of}
 use Rattle.oc_pages.specs.Chains.{HasPages}
 use Rattle.oc_room.specs.Rooms.{owners}
-use Rattle.oc_slots.specs.Forms.{LiesIn, IsTarget, IsOwn, header_cell}
+use Rattle.oc_slots.specs.declared.slot.SlotChange.{SlotChange}
+use Rattle.oc_slots.specs.Forms.{LiesIn, IsTarget, IsOwn, Gives, header_cell}
+use Rattle.oc_slots.specs.Maps.{changed}
+use Rattle.oc_slots.specs.Stores.{Slots, committed, session}
 
 -- These cells make of the old pages the new ones, by a log at this place. The log lies apart from the header and the things of both, and each cell is the root cell or one of the new pages.
 pub record IsCommit (h : Header) (old new : List Page) (place : Cell) (cells : List CellWrite) (d : Disk) : Type 0 where
@@ -25,3 +28,7 @@ pub record IsCommit (h : Header) (old new : List Page) (place : Cell) (cells : L
   pub inside : All (LiesIn (unit_of h) (length d.bytes)) (things_of new)
   pub chain : HasPages (unit_of h) (put_cells cells d.bytes) (first_page_of (fields (put_cells cells d.bytes))) new
   pub targets_are : All (λ w. IsTarget h new w.target) cells
+
+-- A stop leaves what was said, and the slots of the last commit or those of the session with these changes.
+abbrev pub BeforeOrAfter : Slots → List SlotChange → Disk → List ℕ → List ℕ → Type 0
+BeforeOrAfter s last d image said = (said ≡ d.said) × (Gives image (committed s d) ⊎ Gives image (changed last (session s d)))

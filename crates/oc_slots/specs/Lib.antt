@@ -1,4 +1,5 @@
 pub mod Attaching
+pub mod Cached
 pub mod Commits
 pub mod Forms
 pub mod Held
@@ -9,3 +10,5 @@ pub mod Pointings
 pub mod Slots
 pub mod Stores
 pub mod Writing
+pub mod Turnovers
+pub mod Planning

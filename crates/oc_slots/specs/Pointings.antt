@@ -1,31 +1,35 @@
 -- Cells that numbers get in the pages.
-use Rattle.std.specs.Prelude.{◌≡◌, ℕ, false, if◌then◌else◌, List, [], ◌∷◌, map, flat_map, IsSome, Option, Some, None, All, AllPairs}
+use Rattle.std.specs.Prelude.{◌≡◌, ℕ, Bool, false, if◌then◌else◌, List, [], ◌∷◌, flat_map, IsSome, Option, Some, None, option_map, All, AllPairs}
+use Rattle.std.specs.List.{list_any}
 use Rattle.std.specs.Option.{option_to_list}
 use Rattle.oc_layout.specs.declared.cells.Cell.{Cell}
 use Rattle.oc_layout.specs.declared.cells.CellWrite.{CellWrite}
 use Rattle.oc_pages.specs.declared.page.Page.{Page}
 use Rattle.oc_pages.specs.Pages.{pointer_in, pointer_of, page_holding, target_of, with_pointer}
 use Rattle.oc_slots.specs.declared.slot.SlotId.{SlotId}
+use Rattle.oc_slots.specs.declared.turnover.Pointing.{Pointing}
 use Rattle.oc_slots.specs.Maps.{is_same}
-
--- a number of a space, the cell that it gets, and the byte of the file where that stands
-pub record Pointing : Type 0 where
-  pub id : SlotId
-  pub cell : Cell
-  pub target : ℕ
 
 -- the pages with these cells, one after another
 abbrev pub set_all : List Pointing → List Page → List Page
 set_all [] pages = pages
 set_all (p ∷ ps) pages = set_all ps (with_pointer p.id.space p.id.number p.cell pages)
 
+-- the write that puts one in, where a page has its number
+abbrev pub write_of : Pointing → Option CellWrite
+write_of p = option_map (λ target. record { target = target; cell = p.cell }) p.target
+
 -- the writes that put them in
 abbrev pub writes_of : List Pointing → List CellWrite
-writes_of ps = map (λ p. record { target = p.target; cell = p.cell }) ps
+writes_of ps = flat_map (λ p. option_to_list (write_of p)) ps
 
--- each stands where the cell of its number does
+-- each stands where the cell of its number does, if a page has the number
 abbrev pub AreAt : ℕ → List Page → List Pointing → Type 0
-AreAt unit pages ps = All (λ p. target_of unit pages p.id.space p.id.number ≡ Some p.target) ps
+AreAt unit pages ps = All (λ p. target_of unit pages p.id.space p.id.number ≡ p.target) ps
+
+-- one of them is of this slot
+abbrev pub is_pointed : List Pointing → SlotId → Bool
+is_pointed ps id = list_any (λ p. is_same p.id id) ps
 
 -- the pointer of this slot by these cells, and else this one
 abbrev pub pointed_place : List Pointing → SlotId → Option Cell → Option Cell

@@ -1,6 +1,6 @@
 -- What contracts see of a slot store, and its two maps.
-use Rattle.std.specs.Prelude.{◌≡◌, ◌≢◌, ◌≤◌, ◌<◌, ℕ, ◌+◌, true, false, nat_eq, List, [], ◌∷◌, ◌++◌, length, Option, Some, None, All, AllPairs}
-use Rattle.std.specs.Map.{lookup}
+use Rattle.std.specs.Prelude.{◌≡◌, ◌≢◌, ◌≤◌, ℕ, true, false, nat_eq, List, ◌∷◌, ◌++◌, length, Option, Some, None, All, AllPairs}
+use Rattle.std.specs.Map.{keys_of, lookup}
 use Rattle.std.specs.Option.{option_map_or}
 use Rattle.oc_layout.specs.declared.cells.Cell.{Cell}
 use Rattle.oc_layout.specs.declared.cells.Header.{Header}
@@ -18,13 +18,14 @@ use Rattle.oc_slots.specs.declared.slot.Side.{Side}
 use Rattle.oc_slots.specs.declared.slot.Side.TheVariants.{Committed, Session}
 use Rattle.oc_slots.specs.declared.slot.SlotId.{SlotId}
 use Rattle.oc_slots.specs.declared.slot.SlotChange.{SlotChange}
-use Rattle.oc_slots.specs.Maps.{SlotMap, content, is_same}
+use Rattle.oc_slots.specs.Cached.{Cached}
+use Rattle.oc_slots.specs.Maps.{SlotMap, bytes_at, content, is_same}
 use Rattle.oc_slots.specs.Forms.{LiesIn, header_cell}
 use Rattle.oc_slots.specs.Held.{Holds, map_of}
 use Rattle.oc_slots.specs.Slots.{Changes, changes_of, places_in, AreSome}
 
--- The header, the pages of the committed side, what changed in the two spaces since the last commit, the room of the file, and its length in
--- bytes.
+-- The header, the pages of the committed side, what changed in the two spaces since the last commit, the room of the file, its length in
+-- bytes, and the slots whose bytes are kept in memory.
 pub record Slots : Type 0 where
   pub header : Header
   pub pages : List Page
@@ -32,6 +33,11 @@ pub record Slots : Type 0 where
   pub system : Changes
   pub room : rooms.Space
   pub len : ℕ
+  pub cached : Cached
+
+-- the places of the slots that are kept, the most recently fetched first
+abbrev pub kept : Slots → List Cell
+kept s = keys_of s.cached
 
 -- what changed in this space
 abbrev pub changes_in : Slots → Space → Changes
@@ -73,6 +79,18 @@ length_of (Some c) = c.len
 abbrev pub length_on : Side → Slots → SlotId → ℕ
 length_on side s id = length_of (place_on side s id)
 
+-- the cell is where one of the sides has a slot
+abbrev pub IsPlace : Slots → Cell → Type 0
+IsPlace s c = (side : Side) × ((id : SlotId) × (place_on side s id ≡ Some c))
+
+-- what is kept are slots of the two sides
+abbrev pub ArePlaces : Slots → Cached → Type 0
+ArePlaces s es = All (λ e. IsPlace s e.0) es
+
+-- each has the bytes that the file has at its place
+abbrev pub AreRead : ℕ → List ℕ → Cached → Type 0
+AreRead unit image es = All (λ e. e.1 ≡ bytes_at unit image e.0) es
+
 -- the places of the slots that changed since the last commit
 abbrev pub fresh : Slots → List Cell
 fresh s = places_in s.objects ++ places_in s.system
@@ -81,15 +99,29 @@ fresh s = places_in s.objects ++ places_in s.system
 abbrev pub things : Slots → List Cell
 things s = header_cell ∷ things_of s.pages ++ fresh s
 
--- The file is what the store left: it holds the committed side, has this length, and the places of the session lie in it.
+-- The file is what the store left: it holds the committed side, has this length, the places of the session lie in it, and what is kept was read
+-- from it.
 pub record Agrees (s : Slots) (d : Disk) : Type 0 where
   pub holds : Holds s.header s.pages d
   pub len : s.len ≡ length d.bytes
   pub fresh : All (LiesIn (unit_of s.header) s.len) (fresh s)
+  pub cached : AreRead (unit_of s.header) d.bytes s.cached
 
 -- the places of the session's own slots, as the overlay has them
 abbrev pub fresh_of : Overlay → List Cell
 fresh_of o = places_in (changes_of o Objects) ++ places_in (changes_of o System)
+
+-- the parts of a store as contracts see them
+abbrev pub parts : Header → Paged → Overlay → rooms.Space → ℕ → Cached → Slots
+parts h pages o room len es = record {
+  header = h;
+  pages = pages.pages;
+  objects = changes_of o Objects;
+  system = changes_of o System;
+  room = room;
+  len = len;
+  cached = es;
+}
 
 -- the numbers of slots
 abbrev pub AreNumbers : Changes → Type 0
@@ -119,7 +151,7 @@ pub record AreChanges (changes : List SlotChange) : Type 0 where
   pub numbers : All (λ c. (1 ≤ c.id.number) × (c.id.number ≤ 2147483646)) changes
   pub some : AreSome changes
 
--- the same slots in the same places, and the same room
+-- the same slots in the same places, the same room, and the same slots kept
 pub record IsUnchanged (old new : Slots) : Type 0 where
   pub header : new.header ≡ old.header
   pub pages : new.pages ≡ old.pages
@@ -127,3 +159,4 @@ pub record IsUnchanged (old new : Slots) : Type 0 where
   pub system : new.system ≡ old.system
   pub room : rooms.IsSame old.room new.room
   pub len : new.len ≡ old.len
+  pub cached : new.cached ≡ old.cached

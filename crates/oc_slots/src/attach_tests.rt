@@ -57,7 +57,7 @@ fn file_with(alloc: Global, header: &[u8]) -> Result<Vec<u8>, AllocError> {
     Ok(bytes)
 }
 
-fn file(alloc: Global) -> Result<Vec<u8>, AllocError> {
+pub fn file(alloc: Global) -> Result<Vec<u8>, AllocError> {
     file_with(alloc, &write_header(&WITH_PAGE))
 }
 

@@ -6,10 +6,10 @@ ghost use Rattle.oc_layout.specs.declared.cells.CellWrite.{CellWrite};
 ghost use Rattle.oc_layout.specs.declared.cells.Header.{Header};
 ghost use Rattle.oc_pages.specs.declared.page.Page.{Page};
 ghost use Rattle.oc_slots.specs.declared.attach_fault.AttachFault.TheVariants as attach_fault;
-ghost use Rattle.oc_slots.specs.Attaching.{IsMaking, IsMade, MayBeMade, MayLeave, open_len};
+ghost use Rattle.oc_slots.specs.Attaching.{IsFound, IsMaking, IsMade, MayBeMade, MayLeave, open_len};
 ghost use Rattle.oc_slots.specs.Forms.{HasForm, Gives};
 ghost use Rattle.oc_slots.specs.Maps.{SlotMap, Same};
-ghost use Rattle.oc_slots.specs.Stores.{Agrees, committed};
+ghost use Rattle.oc_slots.specs.Stores.{Agrees, committed, kept};
 
 use crate::front::HEADER;
 use crate::judging::judge;
@@ -34,8 +34,11 @@ impl SlotStore {
         ensures agrees { IfOk result (λ store. IsTrue H.tells → Agrees store (H.disk host.new)) }
         ensures objects { IfOk result (λ store. store.objects ≡ []) }
         ensures system { IfOk result (λ store. store.system ≡ []) }
+        ensures kept { IfOk result (λ store. kept store ≡ []) }
         ensures gives { IfOk result (λ store. IsTrue H.tells → (m : SlotMap) →
             Gives (H.disk host.old).bytes m → Same (committed store (H.disk host.new)) m) }
+        ensures form { IfOk result (λ store. IsTrue H.tells → (h : Header) (ws : List CellWrite) (pages : List Page) →
+            HasForm h ws pages (H.disk host.old).bytes → IsFound h ws pages store (H.disk host.old).bytes (H.disk host.new).bytes) }
         ensures made { IfOk result (λ store. IsTrue H.tells → MayBeMade making.now.anew (H.disk host.old).bytes →
             IsMade making.now store (H.disk host.new)) }
         ensures found { OnOk result (IsTrue H.tells →
@@ -48,6 +51,7 @@ impl SlotStore {
             (H.disk host.new).bytes ≡ (H.disk host.old).bytes }
         ensures any_moment { IsTrue H.tells →
             LeavesOnly (H.disk host.old) (H.disk host.new) (MayLeave making.now.anew (H.disk host.old)) }
+        ensures said { IsTrue H.tells → (H.disk host.new).said ≡ (H.disk host.old).said }
         ensures later { H.faults host.old ≤ H.faults host.new }
         ensures cause { IsErrOf result attach_fault.Host → Rose (H.faults host.old) (H.faults host.new) }
         ensures taken { IsTrue H.tells → (h : Header) (ws : List CellWrite) (pages : List Page) →
@@ -75,8 +79,11 @@ fn attach_synced<H: Host>(
     ensures agrees { IfOk result (λ store. IsTrue H.tells → Agrees store (H.disk host.new)) }
     ensures objects { IfOk result (λ store. store.objects ≡ []) }
     ensures system { IfOk result (λ store. store.system ≡ []) }
+    ensures kept { IfOk result (λ store. store.cached ≡ []) }
     ensures gives { IfOk result (λ store. IsTrue H.tells → (m : SlotMap) →
         Gives (H.disk host.old).bytes m → Same (committed store (H.disk host.new)) m) }
+    ensures form { IfOk result (λ store. IsTrue H.tells → (h : Header) (ws : List CellWrite) (pages : List Page) →
+        HasForm h ws pages (H.disk host.old).bytes → IsFound h ws pages store (H.disk host.old).bytes (H.disk host.new).bytes) }
     ensures made { IfOk result (λ store. IsTrue H.tells → MayBeMade making.now.anew (H.disk host.old).bytes →
         IsMade making.now store (H.disk host.new)) }
     ensures found { OnOk result (IsTrue H.tells →

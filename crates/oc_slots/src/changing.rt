@@ -1,4 +1,5 @@
 // The session is changed.
+use crate::forgetting::forget_changed;
 use crate::noting::note_all;
 use crate::preparing::{Ready, place_changes};
 use crate::writing::write_runs;
@@ -11,13 +12,14 @@ impl SlotStore {
     ghost use Rattle.oc_host.specs.Disk.{LeavesOnly};
     ghost use Rattle.oc_room.specs.Rooms.{unplaced, placed, lacking};
     ghost use Rattle.oc_slots.specs.declared.fault.SpaceFault.TheVariants as SpaceFault;
+    ghost use Rattle.oc_slots.specs.Cached.{AreThose};
     ghost use Rattle.oc_slots.specs.Maps.{Same, changed};
     ghost use Rattle.oc_slots.specs.Slots.{lengths_of};
-    ghost use Rattle.oc_slots.specs.Stores.{Agrees, AreChanges, IsUnchanged, committed, session};
+    ghost use Rattle.oc_slots.specs.Stores.{Agrees, AreChanges, IsUnchanged, IsPlace, committed, session, kept};
     ghost use Rattle.oc_slots.specs.Writing.{Before};
 
     /// Changes the session: each of these slots has these bytes from now on, or is gone. The bytes are written through,
-    /// each slot in the place that fits it best, without a sync.
+    /// each slot in the place that fits it best, without a sync. What is kept of places that come free is forgotten.
     ///
     /// `Full` comes exactly where one of the slots finds no room, and tells the first. After it and after `Memory`
     /// nothing has changed. After `Host` the store is spent.
@@ -34,6 +36,7 @@ impl SlotStore {
         ensures committed { OnOk result (IsTrue H.tells →
             Same (committed self.new (H.disk host.new)) (committed self.old (H.disk host.old))) }
         ensures pages { (self.new.header ≡ self.old.header) × (self.new.pages ≡ self.old.pages) }
+        ensures kept { OnOk result (AreThose (IsPlace self.new) (kept self.old) (kept self.new)) }
         ensures end { OnOk result (self.new.room.end
             ≡ (placed self.old.room.unit (unplaced self.old.room) (lengths_of changes.items)).end) }
         ensures room { OnOk result (lacking self.old.room.unit self.old.room.limit (unplaced self.old.room) (lengths_of changes.items) ≡ None) }
@@ -48,7 +51,11 @@ impl SlotStore {
         ensures taken { H.taken host.new ≡ H.taken host.old }
     {
         let unit = self.header.unit();
-        let Ready { placed, planned } = place_changes(
+        let Ready {
+            placed,
+            planned,
+            ..
+        } = place_changes(
             self.alloc,
             &mut self.room,
             &mut self.overlay,
@@ -57,6 +64,7 @@ impl SlotStore {
             self.len,
             changes,
         )?;
+        forget_changed(&mut self.cache, &self.overlay, &placed);
         note_all(&mut self.overlay, &mut self.room, &mut self.fresh, &placed);
         self.len = planned.end;
         write_runs(host, &planned.runs)?;

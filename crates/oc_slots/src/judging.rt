@@ -15,6 +15,7 @@ ghost use Rattle.oc_slots.specs.declared.attach_fault.AttachFault.TheVariants as
 ghost use Rattle.oc_slots.specs.Attaching.{SuitsTarget, HasThings, IsJudged, with_cells, with_closed, open_len};
 ghost use Rattle.oc_slots.specs.Forms.{HasForm, LiesIn, header_cell, log_things};
 
+use crate::cache::SlotCache;
 use crate::front::{Front, OPEN, read_front, with_cells};
 use crate::ground::judge_things;
 use crate::overlay::Overlay;
@@ -39,6 +40,7 @@ pub fn judge<H: Host>(alloc: Global, host: &mut H, len: u64) -> Result<Judged, A
     requires { IsTrue H.tells → len ≡ length (H.disk host.old).bytes }
     ensures objects { IfOk result (λ judged. judged.store.objects ≡ []) }
     ensures system { IfOk result (λ judged. judged.store.system ≡ []) }
+    ensures kept { IfOk result (λ judged. judged.store.cached ≡ []) }
     ensures ok { IfOk result (λ judged. IsTrue H.tells →
         (ws : List CellWrite) × IsJudged judged.header ws judged.store (H.disk host.old).bytes) }
     ensures not_container { IsErrOf result attach_fault.NotAContainer → IsTrue H.tells →
@@ -136,12 +138,14 @@ fn store_of(
     ensures len { IfOk result (λ store. store.len ≡ len) }
     ensures objects { IfOk result (λ store. store.objects ≡ []) }
     ensures system { IfOk result (λ store. store.system ≡ []) }
+    ensures kept { IfOk result (λ store. store.cached ≡ []) }
     ensures not_container { IsErrOf result attach_fault.NotAContainer →
         HasThings front.now.header front.now.writes.items pages.pages len → ⊥ }
     ensures host { IsErrOf result attach_fault.Host → ⊥ }
 {
     let room = judge_things(alloc, front, &pages, len)?;
-    Ok(store_with(alloc, closed(header), pages, room, len))
+    let cache = SlotCache::new(alloc)?;
+    Ok(store_with(alloc, closed(header), pages, room, len, cache))
 }
 
 fn closed(header: Header) -> Header
@@ -155,7 +159,14 @@ fn closed(header: Header) -> Header
 }
 
 /// The store of these pages, in which nothing has changed.
-pub fn store_with(alloc: Global, header: Header, pages: Pages, room: Room, len: u64) -> SlotStore
+pub fn store_with(
+    alloc: Global,
+    header: Header,
+    pages: Pages,
+    room: Room,
+    len: u64,
+    cache: SlotCache,
+) -> SlotStore
     requires in_range { is_in_range header ≡ true }
     requires closed { header.gate ≢ 1 }
     requires page_unit { pages.unit ≡ unit_of header }
@@ -166,11 +177,13 @@ pub fn store_with(alloc: Global, header: Header, pages: Pages, room: Room, len: 
     requires end { room.end ≡ blocks (unit_of header) len }
     requires tiles { Tiles room (header_cell ∷ things_of pages.pages) }
     requires some { All (λ c. 1 ≤ c.len) (things_of pages.pages) }
+    requires kept { cache ≡ [] }
     ensures header { result.header ≡ header }
     ensures pages { result.pages ≡ pages.pages }
     ensures len { result.len ≡ len }
     ensures objects { result.objects ≡ [] }
     ensures system { result.system ≡ [] }
+    ensures kept { result.cached ≡ [] }
 {
     let overlay = Overlay::new(alloc);
     SlotStore {
@@ -181,5 +194,6 @@ pub fn store_with(alloc: Global, header: Header, pages: Pages, room: Room, len: 
         overlay,
         fresh: 0,
         len,
+        cache,
     }
 }

@@ -6,17 +6,27 @@ mod attach_fault;
 mod attach_tests;
 mod attaching;
 mod bytes;
+mod cache;
 mod changing;
+mod commit;
+mod commit_plan;
+#[cfg(test)]
+mod commit_tests;
+mod commit_writing;
 mod fault;
 mod fetching;
+mod forgetting;
 mod front;
 mod ground;
+mod installing;
 mod judging;
 mod laws;
 mod listing;
 mod making;
+mod new_pages;
 mod noting;
 mod overlay;
+mod page_writing;
 mod placed;
 mod preparing;
 mod rolling_back;
@@ -26,6 +36,7 @@ mod slot;
 mod store;
 #[cfg(test)]
 mod tests;
+mod turnover;
 mod writing;
 
 pub use attach_fault::AttachFault;

@@ -8,6 +8,7 @@ ghost use Rattle.oc_slots.specs.declared.attach_fault.AttachFault.TheVariants as
 ghost use Rattle.oc_slots.specs.Attaching.{IsMaking, IsMade, StaysShort, plain_header, with_blocks, made_header};
 ghost use Rattle.oc_slots.specs.Stores.{Agrees};
 
+use crate::cache::SlotCache;
 use crate::front::HEADER;
 use crate::judging::store_with;
 use crate::{AttachFault, Making, SlotStore};
@@ -29,6 +30,7 @@ pub fn make<H: Host>(alloc: Global, host: &mut H, making: &Making) -> Result<Slo
     ensures agrees { IfOk result (λ store. IsTrue H.tells → Agrees store (H.disk host.new)) }
     ensures objects { IfOk result (λ store. store.objects ≡ []) }
     ensures system { IfOk result (λ store. store.system ≡ []) }
+    ensures kept { IfOk result (λ store. store.cached ≡ []) }
     ensures made { IfOk result (λ store. IsTrue H.tells → IsMade making.now store (H.disk host.new)) }
     ensures not_container { IsErrOf result attach_fault.NotAContainer → IsTrue H.tells → ⊥ }
     ensures any_moment { IsTrue H.tells → LeavesOnly (H.disk host.old) (H.disk host.new) (StaysShort (H.disk host.old)) }
@@ -37,9 +39,10 @@ pub fn make<H: Host>(alloc: Global, host: &mut H, making: &Making) -> Result<Slo
     ensures taken { H.taken host.new ≡ H.taken host.old }
 {
     let header = header_of(making);
+    let cache = SlotCache::new(alloc)?;
     host.write_at(0, &write_header(&header))?;
     host.sync()?;
-    Ok(empty_store(alloc, header))
+    Ok(empty_store(alloc, header, cache))
 }
 
 // The header of a container that is made so.
@@ -76,18 +79,20 @@ fn plain_header(limit: u32, first: u32) -> Header
 }
 
 // The store of a file that has no more than this header.
-fn empty_store(alloc: Global, header: Header) -> SlotStore
+fn empty_store(alloc: Global, header: Header, cache: SlotCache) -> SlotStore
     requires in_range { is_in_range header ≡ true }
     requires closed { header.gate ≡ 0 }
+    requires kept { cache ≡ [] }
     ensures header { result.header ≡ header }
     ensures pages { result.pages ≡ [] }
     ensures len { result.len ≡ 128 }
     ensures objects { result.objects ≡ [] }
     ensures system { result.system ≡ [] }
+    ensures kept { result.cached ≡ [] }
 {
     let unit = header.unit();
     let end = HEADER.div_ceil(unit);
     let pages = Pages::new(alloc, unit);
     let room = Room::new(alloc, unit, end, header.room());
-    store_with(alloc, header, pages, room, HEADER as u64)
+    store_with(alloc, header, pages, room, HEADER as u64, cache)
 }

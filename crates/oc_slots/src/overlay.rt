@@ -29,6 +29,16 @@ impl Overlay {
         }
     }
 
+    /// What changed in this space.
+    pub fn of(&self, space: Space) -> &IndexMap<u32, Option<Cell>>
+        ensures { result.now.entries ≡ changes_of self.now space }
+    {
+        match space {
+            Space::Objects => &self.objects,
+            Space::System => &self.system,
+        }
+    }
+
     /// What became of a slot, if it changed.
     pub fn get(&self, id: SlotId) -> Option<Option<Cell>>
         ensures { result ≡ lookup (nat_eq id.number) (changes_of self.now id.space) }

@@ -1,7 +1,7 @@
 // Changes are placed, and all memory that they need is taken.
 ghost use Rattle.std.specs.Prelude.{◌≡◌, ◌≤◌, ◌<◌, ◌+◌, ◌++◌, ℕ, length, map, All, Some, None, IfOk, OnOk, OnErr, IsErrOf};
 ghost use Rattle.oc_layout.specs.declared.cells.Space.{Space};
-ghost use Rattle.oc_room.specs.Rooms.{GoesBack, IsRoom, IsSame, open_at, owners, unplaced, placed, lacking};
+ghost use Rattle.oc_room.specs.Rooms.{AreInOrder, GoesBack, IsRoom, IsSame, open_at, owners, unplaced, placed, lacking};
 ghost use Rattle.oc_slots.specs.declared.fault.SpaceFault.TheVariants as SpaceFault;
 ghost use Rattle.oc_slots.specs.Slots.{AreSome, space_fault, changes_of, spare_of, change_of, slots_of, cells_of, length_list, lengths_of};
 ghost use Rattle.oc_slots.specs.Pieces.{IsPlanned};
@@ -14,10 +14,11 @@ use oc_layout::Cell;
 use oc_room::{Room, RoomFault};
 use std::alloc::{AllocError, Global};
 
-/// Changes with their places, and the runs in which their slots are written.
+/// Changes with their places, these places, and the runs in which their slots are written.
 #[derive(Debug, Drop)]
 pub struct Ready {
     pub placed: Vec<PlacedChange>,
+    pub cells: Vec<Cell>,
     pub planned: Planned,
 }
 
@@ -46,6 +47,8 @@ pub fn place_changes(
     ensures open { IfOk result (λ ready. (k : ℕ) →
         open_at room.old k ≡ open_at room.new k + owners room.old.unit (cells_of ready.placed.items) k) }
     ensures back { IfOk result (λ ready. GoesBack room.new (cells_of ready.placed.items) room.old.end) }
+    ensures cells { IfOk result (λ ready. ready.cells.items ≡ cells_of ready.placed.items) }
+    ensures order { IfOk result (λ ready. AreInOrder room.old.unit room.old.end (cells_of ready.placed.items) room.new.end) }
     ensures planned { IfOk result (λ ready. IsPlanned unit len (slots_of ready.placed.items) ready.planned) }
     ensures overlay_room { IfOk result (λ ready. length ready.placed.items ≤ spare_of overlay.new) }
     ensures room_spare { IfOk result (λ ready. fresh + length (cells_of ready.placed.items) ≤ room.new.spare) }
@@ -69,8 +72,12 @@ pub fn place_changes(
         Ok(cells) => cells,
         Err(fault) => return Err(fault_of(fault)),
     };
-    match make_ready(alloc, changes, &cells, unit, len) {
-        Ok(ready) => Ok(ready),
+    match plan_changes(alloc, changes, &cells, unit, len) {
+        Ok((placed, planned)) => Ok(Ready {
+            placed,
+            cells,
+            planned,
+        }),
         Err(_) => {
             room.take_back(&cells, end);
             Err(SpaceFault::Memory)
@@ -79,26 +86,27 @@ pub fn place_changes(
 }
 
 // The changes with these places, and the runs of their slots.
-fn make_ready(
+fn plan_changes(
     alloc: Global,
     changes: Vec<SlotChange>,
     cells: &[Cell],
     unit: u32,
     len: u64,
-) -> Result<Ready, AllocError>
+) -> Result<(Vec<PlacedChange>, Planned), AllocError>
     requires unit { 0 < unit }
     requires block { unit ≤ 127 }
     requires lengths { map (λ c. c.len) cells.now ≡ lengths_of changes.items }
-    ensures changes { IfOk result (λ ready. map change_of ready.placed.items ≡ changes.items) }
-    ensures cells { IfOk result (λ ready. cells_of ready.placed.items ≡ cells.now) }
-    ensures planned { IfOk result (λ ready. IsPlanned unit len (slots_of ready.placed.items) ready.planned) }
+    ensures changes { IfOk result (λ ready. map change_of ready.0.items ≡ changes.items) }
+    ensures cells { IfOk result (λ ready. cells_of ready.0.items ≡ cells.now) }
+    ensures planned { IfOk result (λ ready. IsPlanned unit len (slots_of ready.0.items) ready.1) }
 {
     let placed = placed(alloc, changes, cells)?;
     let planned = plan(alloc, &placed, unit, len)?;
-    Ok(Ready { placed, planned })
+    Ok((placed, planned))
 }
 
-fn fault_of(fault: RoomFault) -> SpaceFault
+/// A fault of a room as one of slots.
+pub fn fault_of(fault: RoomFault) -> SpaceFault
     ensures { result ≡ space_fault fault }
 {
     match fault {

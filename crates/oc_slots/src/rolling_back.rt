@@ -8,6 +8,7 @@ ghost use Rattle.oc_slots.specs.Slots.{cell_list, places_in};
 ghost use Rattle.oc_slots.specs.Noting.{GoFree};
 
 use crate::SlotStore;
+use crate::forgetting::forget_places;
 use crate::overlay::Overlay;
 use indexmap::IndexMap;
 use oc_layout::Cell;
@@ -16,10 +17,11 @@ use oc_room::Room;
 impl SlotStore {
     ghost use Rattle.oc_host.specs.Disk.{Disk};
     ghost use Rattle.oc_slots.specs.Maps.{Same};
-    ghost use Rattle.oc_slots.specs.Stores.{Agrees, committed, session};
+    ghost use Rattle.oc_slots.specs.Cached.{AreThose};
+    ghost use Rattle.oc_slots.specs.Stores.{Agrees, committed, session, kept, IsPlace};
 
-    /// Gives the session up: it is the committed side again, and the places that it alone had are free. It takes no
-    /// memory, and the file is as before.
+    /// Gives the session up: it is the committed side again, and the places that it alone had are free and no longer
+    /// kept. It takes no memory, and the file is as before.
     pub fn rollback(&mut self)
         ensures agrees { (disk : Disk) → Agrees self.old disk → Agrees self.new disk }
         ensures committed { (disk : Disk) → Same (committed self.new disk) (committed self.old disk) }
@@ -30,7 +32,10 @@ impl SlotStore {
         ensures system { self.new.system ≡ [] }
         ensures end { self.new.room.end ≡ self.old.room.end }
         ensures len { self.new.len ≡ self.old.len }
+        ensures kept { AreThose (IsPlace self.new) (kept self.old) (kept self.new) }
     {
+        forget_places(&mut self.cache, &self.overlay.objects);
+        forget_places(&mut self.cache, &self.overlay.system);
         release_all(&mut self.room, &self.overlay.objects);
         release_all(&mut self.room, &self.overlay.system);
         self.overlay = Overlay::new(self.alloc);
@@ -67,8 +72,8 @@ fn release(room: &mut Room, cell: Option<Cell>)
     }
 }
 
-// The place of the change at this index, if it has one.
-fn place_at(changes: &IndexMap<u32, Option<Cell>>, index: usize) -> Option<Cell>
+/// The place of the change at this index, if it has one.
+pub fn place_at(changes: &IndexMap<u32, Option<Cell>>, index: usize) -> Option<Cell>
     requires { index < length changes.now.entries }
     ensures { result ≡ (slice_index_or changes.now.entries index (0, None)).1 }
 {

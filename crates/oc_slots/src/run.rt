@@ -82,8 +82,8 @@ impl Planned {
     }
 }
 
-// The first byte that is written for a slot at this cell.
-fn from(unit: u32, end: u64, before: Option<Cell>, cell: Cell) -> u64
+/// The first byte that is written for a slot at this cell.
+pub fn from(unit: u32, end: u64, before: Option<Cell>, cell: Cell) -> u64
     requires unit { 0 < unit }
     requires block { unit ≤ 127 }
     ensures is { result ≡ from unit end before cell }

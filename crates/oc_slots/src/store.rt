@@ -1,5 +1,6 @@
 // A slot store: two sides of one file.
 use crate::SlotId;
+use crate::cache::SlotCache;
 use crate::overlay::Overlay;
 use oc_layout::{Cell, Header};
 use oc_pages::Pages;
@@ -10,8 +11,9 @@ use std::marker::Model;
 /// Slots of bytes in a file: the committed side, which the pages of the file name, and the session, which is that with
 /// what has changed since.
 ///
-/// Contracts see the header, the pages, what changed in each space, the room and the length of the file. What the two
-/// maps are is told by these and the file. The session's slots are written through, so their bytes stand in the file.
+/// Contracts see the header, the pages, what changed in each space, the room and the length of the file, and the slots
+/// whose bytes are kept. What the two maps are is told by these and the file. The session's slots are written through, so
+/// their bytes stand in the file.
 #[derive(Drop)]
 pub struct SlotStore {
     pub(crate) alloc: Global,
@@ -21,23 +23,19 @@ pub struct SlotStore {
     pub(crate) overlay: Overlay,
     pub(crate) fresh: u32,
     pub(crate) len: u64,
+    pub(crate) cache: SlotCache,
 }
 
 impl Model for SlotStore {
-    ghost use Rattle.oc_slots.specs.Stores.{Slots, IsWhole};
+    ghost use Rattle.std.specs.Prelude.{[]};
+    ghost use Rattle.oc_slots.specs.Stores.{Slots, IsWhole, ArePlaces, parts};
 
     ghost Value = { Slots };
 
-    ghost view = { λ s. record {
-      header = s.header;
-      pages = s.pages.pages;
-      objects = s.overlay.objects.entries;
-      system = s.overlay.system.entries;
-      room = s.room;
-      len = s.len;
-    } };
+    ghost view = { λ s. parts s.header s.pages s.overlay s.room s.len s.cache };
 
-    ghost invariant = { λ s. IsWhole s.header s.pages s.overlay s.room s.fresh s.len };
+    ghost invariant = { λ s. IsWhole s.header s.pages s.overlay s.room s.fresh s.len
+        × ArePlaces (parts s.header s.pages s.overlay s.room s.len []) s.cache };
 }
 
 impl SlotStore {

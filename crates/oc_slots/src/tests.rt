@@ -3,7 +3,8 @@ ghost use Rattle.std.specs.Prelude.{◌≡◌, ◌≤◌, length, IfOk, IfSome};
 ghost use Rattle.oc_slots.specs.Attaching.{IsMaking};
 ghost use Rattle.oc_slots.specs.Stores.{AreChanges};
 
-mod quiet;
+mod kept;
+pub mod quiet;
 
 use crate::{AttachFault, Bytes, Making, Side, SlotChange, SlotId, SlotStore, SpaceFault};
 use oc_host::MemHost;
@@ -13,7 +14,7 @@ use std::alloc::{AllocError, Global};
 use std::test::Fail;
 
 // A change of one slot: these many bytes of this value, or none.
-fn one(alloc: Global, number: u32, value: u8, len: usize) -> Result<Vec<SlotChange>, AllocError>
+pub fn one(alloc: Global, number: u32, value: u8, len: usize) -> Result<Vec<SlotChange>, AllocError>
     requires { (1 ≤ number) × (number ≤ 2147483646) }
     ensures { IfOk result (λ v. AreChanges v.items) }
 {
@@ -30,7 +31,7 @@ fn one(alloc: Global, number: u32, value: u8, len: usize) -> Result<Vec<SlotChan
 }
 
 // These many bytes of this value, or none where they are no bytes.
-fn bytes_of(alloc: Global, value: u8, len: usize) -> Result<Option<Bytes>, AllocError>
+pub fn bytes_of(alloc: Global, value: u8, len: usize) -> Result<Option<Bytes>, AllocError>
     ensures { IfOk result (λ o. IfSome o (λ b. 1 ≤ length b)) }
 {
     if len == 0 {
@@ -39,12 +40,12 @@ fn bytes_of(alloc: Global, value: u8, len: usize) -> Result<Option<Bytes>, Alloc
     Ok(Some(Bytes::of(vec![in alloc; value; len]?)))
 }
 
-fn empty(alloc: Global) -> Result<Quiet, AllocError> {
+pub fn empty(alloc: Global) -> Result<Quiet, AllocError> {
     let memory = MemHost::new(alloc, Vec::new(alloc), Vec::new(alloc))?;
     Ok(Quiet::of(memory))
 }
 
-fn making(limit: u32, block: Option<u32>) -> Making
+pub fn making(limit: u32, block: Option<u32>) -> Making
     requires limit { (128 ≤ limit) × (limit ≤ 2147483647) }
     requires block { IfSome block (λ b. (1 ≤ b) × (b ≤ 127)) }
     ensures { IsMaking result }
@@ -57,14 +58,14 @@ fn making(limit: u32, block: Option<u32>) -> Making
     }
 }
 
-fn full(answer: Result<(), SpaceFault>) -> Option<(u64, u32, u32)> {
+pub fn full(answer: Result<(), SpaceFault>) -> Option<(u64, u32, u32)> {
     match answer {
         Err(SpaceFault::Full { need, len, limit }) => Some((need, len, limit)),
         _ => None,
     }
 }
 
-fn is_there(found: &Option<Vec<u8>>, value: u8, len: usize) -> bool {
+pub fn is_there(found: &Option<Vec<u8>>, value: u8, len: usize) -> bool {
     match found {
         Some(bytes) => bytes.len() == len && bytes.iter().all(|byte| *byte == value),
         None => len == 0,

@@ -10,7 +10,7 @@ pub struct Quiet {
     pub memory: MemHost,
     clock: u64,
     faults: u64,
-    taken: u64,
+    pub taken: u64,
 }
 
 impl Quiet {

@@ -35,6 +35,7 @@ loop-next-preserved g c =
     let next = c.loop-next.next in
     let page = c.in_ok-page.page in
     let grown : c.take_in.new.table.pages ≡ done ++ page ∷ [] = c.in_ok-take_in.ensures.ok in
+    let size : length page.cells ≡ 126 = search rules in
     record {
       size = inv.size;
       within = λ told. subst (λ (b : List ℕ). AllWithin (length b) c.args.cells.now) (sym (c.read_at.ensures.looks told).bytes) (inv.within told);
@@ -43,6 +44,7 @@ loop-next-preserved g c =
           (leads_more c.args.unit (put_cells c.args.cells.now d.bytes) c.args.root done next page (inv.leads told) (subst (λ (b : List ℕ). StandsAt c.args.unit (put_cells c.args.cells.now b) next page) (inv.looks told).bytes (c.in_ok-page.ensures.ok told)));
       first = subst (λ (l : List Page). first_or page.link l ≡ c.args.root) (sym grown) (first_more c.args.root next done page page.link inv.first c.in_ok-page.ensures.at);
       in_range = subst (λ (l : List Page). All IsInRange l) (sym grown) (All-push IsInRange done page inv.in_range c.in_ok-page.ensures.in_range);
+      full = subst (λ (l : List Page). All (λ p. length p.cells ≡ 126) l) (sym grown) (All-push (λ p. length p.cells ≡ 126) done page inv.full size);
       distinct = c.in_ok-take_in.ensures.distinct;
       later = omega (arith, inv.later, c.read_at.ensures.later);
       taken = omega (arith, inv.taken, c.read_at.ensures.taken, ap length grown, length-append done (page ∷ []));

@@ -15,6 +15,7 @@ invariant-loop-next g l = record {
   leads : IsTrue g.H.Host.tells → Leads l.unit (put_cells l.cells (g.H.Host.disk l.fn.host).bytes) l.fn.root l.table.pages l.next;
   first : first_or l.next l.table.pages ≡ l.fn.root;
   in_range : All IsInRange l.table.pages;
+  full : All (λ p. length p.cells ≡ 126) l.table.pages;
   distinct : AllPairs IsOther l.table.pages;
   later : g.H.Host.faults l.fn.host ≤ g.H.Host.faults l.host;
   taken : g.H.Host.taken l.host ≤ g.H.Host.taken l.fn.host + 1024 * length l.table.pages;

@@ -1,8 +1,11 @@
-use Rattle.std.proofs.Common.{◌≡◌, ◌∙◌, ◌⊎◌, inl, inr, ◌≤◌, length, sym, ap, subst, rules, arith}
+use Rattle.std.proofs.Common.{◌≡◌, ◌∙◌, ◌⊎◌, inl, inr, ◌≤◌, List, length, sym, ap, subst, rules, arith}
 use Rattle.std.specs.Prelude.{IsErrOf, IsTrue}
+use Rattle.oc_layout.specs.declared.cells.CellWrite.{CellWrite}
+use Rattle.oc_layout.specs.declared.cells.Header.{Header}
+use Rattle.oc_pages.specs.declared.page.Page.{Page}
 use Rattle.oc_slots.specs.declared.attach_fault.AttachFault.TheVariants as attach_fault
-use Rattle.oc_slots.specs.Attaching.{IsJudged, IsMade, MayBeMade, open_len}
-use Rattle.oc_slots.specs.Forms.{Gives}
+use Rattle.oc_slots.specs.Attaching.{IsFound, IsJudged, IsMade, MayBeMade, open_len}
+use Rattle.oc_slots.specs.Forms.{HasForm, Gives}
 use Rattle.oc_slots.specs.Maps.{SlotMap, Same}
 use Rattle.oc_slots.specs.Stores.{Agrees, committed}
 use Rattle.oc_slots.proofs.Attached.{on_ok, none_made, empty_gives_none, no_form_no_map, looks_synced, looked_leaves, made_leaves, settled_leaves}
@@ -18,6 +21,13 @@ returns-then-len-eq0-clause-gives g c =
     let f = g.H.Host.disk c.make.new.host in
     ok_map c.make.result (λ store. IsTrue g.H.Host.tells → Agrees store f) (λ store. IsTrue g.H.Host.tells → (m : SlotMap) → Gives d.bytes m → Same (committed store f) m) c.make.ensures.agrees
     (λ store agrees told m gives. absurd (empty_gives_none d.bytes (sym (c.requires.len told) ∙ c.if-len-eq0.true) m gives))
+
+pub returns-then-len-eq0-clause-form : goal.returns-then-len-eq0-clause-form
+returns-then-len-eq0-clause-form g c =
+    let d = g.H.Host.disk c.args.host.now in
+    let f = g.H.Host.disk c.make.new.host in
+    ok_map c.make.result (λ store. IsTrue g.H.Host.tells → Agrees store f) (λ store. IsTrue g.H.Host.tells → (h : Header) (ws : List CellWrite) (pages : List Page) → HasForm h ws pages d.bytes → IsFound h ws pages store d.bytes f.bytes) c.make.ensures.agrees
+    (λ store agrees told h ws pages form. absurd (omega (arith, form.header.long, sym (c.requires.len told) ∙ c.if-len-eq0.true)))
 
 pub returns-then-len-eq0-clause-any_moment : goal.returns-then-len-eq0-clause-any_moment
 returns-then-len-eq0-clause-any_moment g c told =
@@ -45,6 +55,14 @@ returns-in-Ok-clause-gives g c =
     let f = g.H.Host.disk c.settle.new.host in
     ok_map c.settle.result (λ store. IsTrue g.H.Host.tells → (m : SlotMap) → Gives e.bytes m → Same (committed store f) m) (λ store. IsTrue g.H.Host.tells → (m : SlotMap) → Gives d.bytes m → Same (committed store f) m) c.settle.ensures.gives
     (λ store was told m gives. was told m (subst (λ b. Gives b m) (sym (c.judge.ensures.looks told).bytes) gives))
+
+pub returns-in-Ok-clause-form : goal.returns-in-Ok-clause-form
+returns-in-Ok-clause-form g c =
+    let d = g.H.Host.disk c.args.host.now in
+    let e = g.H.Host.disk c.judge.new.host in
+    let f = g.H.Host.disk c.settle.new.host in
+    ok_map c.settle.result (λ store. IsTrue g.H.Host.tells → (h : Header) (ws : List CellWrite) (pages : List Page) → HasForm h ws pages e.bytes → IsFound h ws pages store e.bytes f.bytes) (λ store. IsTrue g.H.Host.tells → (h : Header) (ws : List CellWrite) (pages : List Page) → HasForm h ws pages d.bytes → IsFound h ws pages store d.bytes f.bytes) c.settle.ensures.form
+    (λ store was told. subst (λ b. (h : Header) (ws : List CellWrite) (pages : List Page) → HasForm h ws pages b → IsFound h ws pages store b f.bytes) (c.judge.ensures.looks told).bytes (was told))
 
 pub returns-in-Ok-clause-made : goal.returns-in-Ok-clause-made
 returns-in-Ok-clause-made g c =
@@ -88,6 +106,14 @@ returns-in-Err-NotAContainer-clause-gives g c =
     let f = g.H.Host.disk c.make-in-Err-NotAContainer.new.host in
     ok_map c.make-in-Err-NotAContainer.result (λ store. IsTrue g.H.Host.tells → Agrees store f) (λ store. IsTrue g.H.Host.tells → (m : SlotMap) → Gives d.bytes m → Same (committed store f) m) c.make-in-Err-NotAContainer.ensures.agrees
     (λ store agrees told m gives. absurd (no_form_no_map d.bytes (c.judge.ensures.not_container err told) m gives))
+
+pub returns-in-Err-NotAContainer-clause-form : goal.returns-in-Err-NotAContainer-clause-form
+returns-in-Err-NotAContainer-clause-form g c =
+    let d = g.H.Host.disk c.args.host.now in
+    let err : IsErrOf c.judge.result attach_fault.NotAContainer = search rules in
+    let f = g.H.Host.disk c.make-in-Err-NotAContainer.new.host in
+    ok_map c.make-in-Err-NotAContainer.result (λ store. IsTrue g.H.Host.tells → Agrees store f) (λ store. IsTrue g.H.Host.tells → (h : Header) (ws : List CellWrite) (pages : List Page) → HasForm h ws pages d.bytes → IsFound h ws pages store d.bytes f.bytes) c.make-in-Err-NotAContainer.ensures.agrees
+    (λ store agrees told h ws pages form. absurd (c.judge.ensures.not_container err told h ws pages form))
 
 pub returns-in-Err-NotAContainer-clause-made : goal.returns-in-Err-NotAContainer-clause-made
 returns-in-Err-NotAContainer-clause-made g c =

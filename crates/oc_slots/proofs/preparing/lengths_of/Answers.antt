@@ -1,4 +1,4 @@
-use Rattle.std.proofs.Common.{◌≡◌, ◌∙◌, ◌++◌, sym, ap}
+use Rattle.std.proofs.Common.{◌∙◌, ◌++◌, sym, ap}
 use Rattle.oc_slots.specs.Slots.{length_list}
 use Rattle.oc_slots.proofs.PlacedSlots.{lengths_more, lengths_whole}
 use Rattle.oc_slots.proofs.preparing.lengths_of.Goals as goal

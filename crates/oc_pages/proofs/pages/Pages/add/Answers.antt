@@ -1,7 +1,8 @@
-use Rattle.std.proofs.Common.{◌≡◌, ◌∷◌, sym, ap, subst, false, None}
+use Rattle.std.proofs.Common.{◌≡◌, ◌∷◌, length, sym, ap, subst, false, None}
+use Rattle.std.proofs.lemmas.List.{length-replicate}
 use Rattle.std.specs.Prelude.{All}
 use Rattle.oc_pages.specs.declared.page.Page.{Page}
-use Rattle.oc_pages.specs.Pages.{Paged, is_page, page_of, place_of, first_of, empty_page}
+use Rattle.oc_pages.specs.Pages.{Paged, no_cell, is_page, page_of, place_of, first_of, empty_page}
 use Rattle.oc_pages.specs.Places.{chained, IsNamed}
 use Rattle.oc_pages.proofs.Chained.{distinct_chained}
 use Rattle.oc_pages.proofs.Changes.{named_empty, ordered_more, pages_more}
@@ -17,6 +18,7 @@ pub invariant_of-self : goal.invariant_of-self
 invariant_of-self c =
     ordered_more c.self.inside.first (record { at = c.args.at; len = 1024 }) c.self.inside.loaded c.self.inside.table.pages c.push.new.self.pages c.empty_page.result c.self.invariant c.push.ensures.pages
     (sym (ap place_of c.empty_page.ensures)) (subst IsNamed (sym c.empty_page.ensures) (named_empty c.args.space c.args.index c.args.at c.self.inside.first))
+    (subst (λ (p : Page). length p.cells ≡ 126) (sym c.empty_page.ensures) (length-replicate 126 no_cell))
 
 pub returns-clause-pages : goal.returns-clause-pages
 returns-clause-pages c =

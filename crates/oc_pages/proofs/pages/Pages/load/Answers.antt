@@ -6,7 +6,7 @@ use Rattle.oc_pages.proofs.pages.Pages.load.Goals as goal
 
 pub invariant_of-result : goal.invariant_of-result
 invariant_of-result g c =
-    subst (λ (n : ℕ). IsOrdered c.args.root n c.in_ok-table.table.pages) (sym c.len.ensures.len) (ordered_all c.args.root c.in_ok-table.table.pages c.in_ok-table.ensures.first c.in_ok-table.ensures.in_range)
+    subst (λ (n : ℕ). IsOrdered c.args.root n c.in_ok-table.table.pages) (sym c.len.ensures.len) (ordered_all c.args.root c.in_ok-table.table.pages c.in_ok-table.ensures.first c.in_ok-table.ensures.in_range c.in_ok-table.ensures.full)
 
 pub returns-clause-distinct : goal.returns-clause-distinct
 returns-clause-distinct g c = distinct_chained c.len.result c.in_ok-table.table.pages c.in_ok-table.ensures.distinct

@@ -1,11 +1,11 @@
-use Rattle.std.proofs.Common.{◌≡◌, ◌∙◌, ◌<◌, ◌≤◌, ◌+◌, ◌++◌, ◌∷◌, [], ℕ, true, false, is_ok, Some, length, get_or, cond, ap, ap₂, sym, subst, subst₂, refl, arith}
+use Rattle.std.proofs.Common.{max, ◌≡◌, ◌∙◌, ◌<◌, ◌≤◌, ◌+◌, ◌++◌, ◌∷◌, [], ℕ, true, false, is_ok, Some, length, get_or, cond, ap, ap₂, sym, subst, subst₂, refl, arith}
 use Rattle.std.proofs.lemmas.List.{drop_all}
 use Rattle.oc_layout.specs.Layout.{blocks}
 use Rattle.oc_free.specs.FreeParts.{AreFree, free_at}
 use Rattle.oc_room.specs.Rooms.{Space, Placed, owns, open_at, unplaced, place_next, finds_room, lacking, IsRoom, LiesApart, GoesBack}
 use Rattle.oc_room.specs.declared.fault.RoomFault.TheVariants as RoomFault
 use Rattle.oc_room.proofs.Counting.{some_blocks}
-use Rattle.oc_room.proofs.Placed.{placed_more, lacking_more, lacking_here, lacking_end, full_parts, same_error, owners_behind, all_behind, lies_apart, lens_behind, goes_back, few_cells}
+use Rattle.oc_room.proofs.Placed.{placed_more, lacking_more, lacking_here, lacking_end, full_parts, same_error, owners_behind, all_behind, lies_apart, lens_behind, goes_back, few_cells, order_behind}
 use Rattle.oc_room.proofs.room.Room.place.Goals as goal
 
 pub loop-len-init : goal.loop-len-init
@@ -25,6 +25,7 @@ loop-len-init c =
       some = λ k d lt. absurd (omega (arith, lt));
       lens = refl;
       lies = λ k d lt. absurd (omega (arith, lt));
+      order = refl;
       counted = refl;
       room = grind (arith, c.in_ok-reserve.ensures.room, c.min-most.ensures);
       is_room = record { free = room.free; within = room.within; unit = c.reserve.ensures.is_room.unit; end = omega (arith, room.end, same.limit); limit = c.reserve.ensures.is_room.limit };
@@ -125,6 +126,8 @@ loop-len-preserved c =
       some = all_behind (λ c. 1 ≤ c.len) c.loop-len.cells.items c.in-Some.cell c.loop-len.invariant.some some;
       lens = lens_behind c.args.lengths.now i c.loop-len.cells.items c.in-Some.cell c.loop-len-test.true c.loop-len.invariant.lens c.in-Some.ensures.len;
       lies = all_behind (LiesApart s.unit s.end) c.loop-len.cells.items c.in-Some.cell c.loop-len.invariant.lies lies;
+      order = order_behind s.unit s.end c.loop-len.self.end c.place_one.new.self.end c.loop-len.cells.items c.in-Some.cell c.loop-len.invariant.order c.in-Some.ensures.begins
+          (subst (λ u. c.place_one.new.self.end ≡ max c.loop-len.self.end (c.in-Some.cell.at + blocks u c.in-Some.cell.len)) c.loop-len.invariant.unit c.in-Some.ensures.grows);
       counted = grind (arith, c.loop-len.invariant.counted);
       room = omega (arith, c.place_one.ensures.spare, c.loop-len.invariant.room);
       is_room = c.in-Some.ensures.is_room;

@@ -1,7 +1,7 @@
 use Rattle.std.proofs.Common.{◌≡◌, ◌≤◌, ◌+◌, ℕ, min, take, drop, length, map}
 use Rattle.std.specs.List.{All}
 use Rattle.oc_free.specs.FreeParts.{free_at}
-use Rattle.oc_room.specs.Rooms.{owners, open_at, unplaced, placed, lacking, IsRoom, LiesApart}
+use Rattle.oc_room.specs.Rooms.{owners, open_at, unplaced, placed, lacking, IsRoom, LiesApart, AreInOrder}
 use Rattle.oc_room.proofs.room.Room.place.Given as goal
 
 -- the lengths so far are placed
@@ -18,6 +18,7 @@ invariant-loop-len l = record {
   some : All (λ cell. 1 ≤ cell.len) l.cells.items;
   lens : map (λ cell. cell.len) l.cells.items ≡ take l.len-index l.lengths;
   lies : All (LiesApart l.fn.self.unit l.fn.self.end) l.cells.items;
+  order : AreInOrder l.fn.self.unit l.fn.self.end l.cells.items l.self.end;
   counted : length l.cells.items ≡ l.len-index;
   room : l.others + min (length l.lengths) l.fn.self.limit ≤ l.self.spare;
   is_room : IsRoom l.self;

@@ -4,7 +4,8 @@ use Rattle.oc_layout.specs.Layout.{blocks}
 use Rattle.oc_model.specs.Space.{Part, best_fit, without}
 use Rattle.oc_free.specs.FreeParts.{Free, free_at, has_block}
 use Rattle.oc_room.specs.Rooms.{Space, Placed}
-use Rattle.oc_room.proofs.Placing.{appended, next_in_part, room_in_part, room_at_end, no_room_for_long, still_within}
+use Rattle.oc_room.proofs.Placing.{appended, next_in_part, room_in_part, room_at_end, no_room_for_long, still_within, ends_within}
+use Rattle.oc_room.proofs.Counting.{some_blocks}
 use Rattle.oc_room.proofs.room.Room.place_one.Goals as goal
 
 pub returns-then-len-gt-MOST_BYTES-clause-room : goal.returns-then-len-gt-MOST_BYTES-clause-room
@@ -54,6 +55,23 @@ returns-in-Some-clause-lies c = inl (λ k owned.
     let had : has_block k (record { address = c.in-Some.at; blocks = c.blocks_of-need.result }) ≡ true = subst (λ n. has_block k (record { address = c.in-Some.at; blocks = n }) ≡ true) (sym c.blocks_of-need.ensures) owned in
     let took = c.in-Some.ensures.blocks k in
     subst (λ (v : Space). 1 ≤ free_at v.parts k) c.self.view_is (omega (arith, took, ap {B = ℕ} (λ b. cond b 1 0) had)))
+
+-- the part lies within the file
+module _ (c : goal.In-Some) where
+  need_is : c.blocks_of-need.result ≡ blocks c.self.inside.unit c.args.len
+  need_is = c.blocks_of-need.ensures ∙ ap (λ (v : Space). blocks v.unit c.args.len) (sym c.self.view_is)
+
+  ends : c.in-Some.at + blocks c.args.self.now.unit c.args.len ≤ c.args.self.now.end
+  ends = subst (λ (v : Space). c.in-Some.at + blocks v.unit c.args.len ≤ v.end) c.self.view_is
+      (subst (λ n. c.in-Some.at + n ≤ c.self.inside.end) need_is
+      (ends_within c.self.inside.free.parts c.take.new.self.parts c.self.inside.end c.in-Some.at c.blocks_of-need.result
+      (omega (arith, need_is, some_blocks c.self.inside.unit c.args.len c.self.invariant.unit c.requires)) c.self.invariant.within c.in-Some.ensures.blocks))
+
+pub returns-in-Some-clause-begins : goal.returns-in-Some-clause-begins
+returns-in-Some-clause-begins c = omega (arith, ends c)
+
+pub returns-in-Some-clause-grows : goal.returns-in-Some-clause-grows
+returns-in-Some-clause-grows c = omega (arith, ends c, ap (λ (v : Space). v.end) c.self.view_is)
 
 -- no part was found
 module _ (c : goal.After-append) where

@@ -1,19 +1,22 @@
-use Rattle.std.proofs.Common.{◌≡◌, ◌∙◌, inl, inr, Result, Ok, Err, ℕ, ◌+◌, ◌≤◌, List, [], ◌∷◌, ◌++◌, length, map, sym, ap, subst, refl, arith}
-use Rattle.std.specs.Prelude.{Contains, All}
-use Rattle.oc_layout.specs.declared.cells.Cell.{Cell}
+use Rattle.std.proofs.Common.{◌≡◌, ◌∙◌, inr, Result, Ok, Err, ◌+◌, ◌++◌, get_or, sym, ap, subst, refl}
+use Rattle.std.specs.Prelude.{Contains}
+use Rattle.std.specs.Map.{keys_of}
 use Rattle.std.specs.Result.{OnErr}
 use Rattle.oc_layout.specs.declared.cells.Space.TheVariants.{Objects, System}
 use Rattle.oc_layout.specs.Layout.{unit_of}
 use Rattle.oc_free.specs.FreeParts.{free_at}
-use Rattle.oc_host.specs.Disk.{Disk, LeavesOnly}
+use Rattle.oc_host.specs.Disk.{LeavesOnly}
 use Rattle.oc_room.specs.Rooms.{owners}
-use Rattle.oc_slots.specs.declared.placed.PlacedChange.{PlacedChange}
 use Rattle.oc_slots.specs.Maps.{Same, changed}
 use Rattle.oc_slots.specs.Slots.{changes_of, cells_of, slots_of}
-use Rattle.oc_slots.specs.Stores.{Slots, Agrees, IsWhole, IsUnchanged, fresh_of, session, committed}
-use Rattle.oc_slots.specs.Noting.{noted, IsSession}
+use Rattle.oc_slots.specs.Stores.{Slots, Agrees, ArePlaces, AreRead, IsPlace, IsUnchanged, fresh_of, session, committed, kept, parts}
+use Rattle.oc_slots.specs.Cached.{Cached, AreThose, without}
+use Rattle.oc_slots.specs.Noting.{noted, left_by, IsSession}
 use Rattle.oc_slots.specs.Pieces.{IsPlanned, as_pieces, over_all}
 use Rattle.oc_slots.specs.Writing.{Before, Keeps}
+use Rattle.oc_slots.proofs.Fetches.{agrees_bare, agrees_with}
+use Rattle.oc_slots.proofs.KeptPlaces.{place_same}
+use Rattle.oc_slots.proofs.KeptSteps.{places_after, those_after, reads_after}
 use Rattle.oc_slots.proofs.SessionChange.{whole_same}
 use Rattle.oc_slots.proofs.SessionSteps.{seen, few_fresh, IsPlaced, IsNoted, ready, whole_after, fits, frees, agrees_after, session_after}
 use Rattle.oc_slots.proofs.store.SlotStore.change.Goals as goal
@@ -23,20 +26,23 @@ on_err (Ok x) p = tt
 on_err (Err e) p = p
 
 pub place_changes-requires-clause-few : goal.place_changes-requires-clause-few
-place_changes-requires-clause-few g_ c = few_fresh c.self.inside.header c.self.inside.pages c.self.inside.overlay c.self.inside.room c.self.inside.fresh c.self.inside.len c.self.invariant
+place_changes-requires-clause-few g_ c = few_fresh c.self.inside.header c.self.inside.pages c.self.inside.overlay c.self.inside.room c.self.inside.fresh c.self.inside.len c.self.invariant.0
 
 pub invariant_of-self : goal.invariant_of-self
 invariant_of-self g_ c =
-    let s = c.self.inside in
-    whole_same s.header s.pages s.overlay c.place_changes.new.overlay s.room c.place_changes.new.room s.fresh s.len c.self.invariant c.in_err-placed.ensures.fault c.in_err-placed.ensures.is_room c.in_err-placed.ensures.spare c.in_err-placed.ensures.same
+    let s = c.self.inside in (
+      whole_same s.header s.pages s.overlay c.place_changes.new.overlay s.room c.place_changes.new.room s.fresh s.len c.self.invariant.0 c.in_err-placed.ensures.fault c.in_err-placed.ensures.is_room c.in_err-placed.ensures.spare c.in_err-placed.ensures.same,
+      λ k d lt. place_same s.header s.pages s.overlay c.place_changes.new.overlay s.room c.place_changes.new.room s.len s.len (get_or s.cache k d).0 c.in_err-placed.ensures.same (c.self.invariant.1 k d lt),
+    )
 
 pub returns-in_err-placed-clause-unchanged : goal.returns-in_err-placed-clause-unchanged
 returns-in_err-placed-clause-unchanged g_ c =
     let s = c.self.inside in
     let er = c.in_err-placed.ensures in
-    let same : IsUnchanged (seen s.header s.pages s.overlay s.room s.len) (seen s.header s.pages c.place_changes.new.overlay c.place_changes.new.room s.len) =
-    record { header = refl; pages = refl; objects = er.same Objects; system = er.same System; room = er.fault; len = refl } in
-    on_err c.from_residual.result (inr (subst (λ v. IsUnchanged v (seen s.header s.pages c.place_changes.new.overlay c.place_changes.new.room s.len)) c.self.view_is same, refl))
+    let new = parts s.header s.pages c.place_changes.new.overlay c.place_changes.new.room s.len s.cache in
+    let same : IsUnchanged (parts s.header s.pages s.overlay s.room s.len s.cache) new =
+    record { header = refl; pages = refl; objects = er.same Objects; system = er.same System; room = er.fault; len = refl; cached = refl } in
+    on_err c.from_residual.result (inr (subst (λ v. IsUnchanged v new) c.self.view_is same, refl))
 
 pub note_all-requires-clause-session : goal.note_all-requires-clause-session
 note_all-requires-clause-session g_ c =
@@ -45,7 +51,7 @@ note_all-requires-clause-session g_ c =
     let planned = c.in_ok-placed.field-0.planned in
     let pl = c.in_ok-placed.ensures in
     let f : IsPlaced s.header s.pages s.overlay c.place_changes.new.overlay s.room c.place_changes.new.room s.fresh s.len c.args.changes.items ps planned = record {
-      whole = c.self.invariant;
+      whole = c.self.invariant.0;
       is = c.requires.changes;
       are = pl.changes;
       sizes = pl.sizes;
@@ -58,7 +64,7 @@ note_all-requires-clause-session g_ c =
       limit = pl.limit;
       is_room = pl.is_room;
     } in
-    subst (λ l. IsSession c.place_changes.new.overlay c.place_changes.new.room s.fresh (cells_of l)) (sym c.deref.ensures.value) (ready s.header s.pages s.overlay c.place_changes.new.overlay s.room c.place_changes.new.room s.fresh s.len c.args.changes.items ps planned f)
+    subst (λ l. IsSession c.place_changes.new.overlay c.place_changes.new.room s.fresh (cells_of l)) (sym c.deref-2.ensures.value) (ready s.header s.pages s.overlay c.place_changes.new.overlay s.room c.place_changes.new.room s.fresh s.len c.args.changes.items ps planned f)
 
 pub write_runs-requires : goal.write_runs-requires
 write_runs-requires g_ c told =
@@ -67,7 +73,7 @@ write_runs-requires g_ c told =
     let planned = c.in_ok-placed.field-0.planned in
     let pl = c.in_ok-placed.ensures in
     let f : IsPlaced s.header s.pages s.overlay c.place_changes.new.overlay s.room c.place_changes.new.room s.fresh s.len c.args.changes.items ps planned = record {
-      whole = c.self.invariant;
+      whole = c.self.invariant.0;
       is = c.requires.changes;
       are = pl.changes;
       sizes = pl.sizes;
@@ -81,8 +87,9 @@ write_runs-requires g_ c told =
       is_room = pl.is_room;
     } in
     let old = g_.H.Host.disk c.args.host.now in
-    let agrees : Agrees (seen s.header s.pages s.overlay s.room s.len) old = subst (λ v. Agrees v old) (sym c.self.view_is) (c.requires.agrees told) in
-    subst (λ l. Rattle.oc_slots.specs.Pieces.Fit (as_pieces l) old.bytes) (sym c.deref-2.ensures.value) (fits s.header s.pages s.overlay c.place_changes.new.overlay s.room c.place_changes.new.room s.fresh s.len c.args.changes.items ps planned f old agrees)
+    let agreed : Agrees (parts s.header s.pages s.overlay s.room s.len s.cache) old = subst (λ v. Agrees v old) (sym c.self.view_is) (c.requires.agrees told) in
+    let agrees : Agrees (seen s.header s.pages s.overlay s.room s.len) old = agrees_bare (parts s.header s.pages s.overlay s.room s.len s.cache) old agreed in
+    subst (λ l. Rattle.oc_slots.specs.Pieces.Fit (as_pieces l) old.bytes) (sym c.deref-3.ensures.value) (fits s.header s.pages s.overlay c.place_changes.new.overlay s.room c.place_changes.new.room s.fresh s.len c.args.changes.items ps planned f old agrees)
 
 pub invariant_of-self-in_err-write_runs : goal.invariant_of-self-in_err-write_runs
 invariant_of-self-in_err-write_runs g_ c =
@@ -91,7 +98,7 @@ invariant_of-self-in_err-write_runs g_ c =
     let planned = c.in_ok-placed.field-0.planned in
     let pl = c.in_ok-placed.ensures in
     let f : IsPlaced s.header s.pages s.overlay c.place_changes.new.overlay s.room c.place_changes.new.room s.fresh s.len c.args.changes.items ps planned = record {
-      whole = c.self.invariant;
+      whole = c.self.invariant.0;
       is = c.requires.changes;
       are = pl.changes;
       sizes = pl.sizes;
@@ -105,7 +112,7 @@ invariant_of-self-in_err-write_runs g_ c =
       is_room = pl.is_room;
     } in
     let no = c.note_all.ensures in
-    let same_ps = c.deref.ensures.value in
+    let same_ps = c.deref-2.ensures.value in
     let g : IsNoted c.place_changes.new.overlay c.note_all.new.overlay c.place_changes.new.room c.note_all.new.room c.note_all.new.fresh ps = record {
       session = no.session;
       changes_are = λ space. no.changes space ∙ ap (λ l. noted l space (changes_of c.place_changes.new.overlay space)) same_ps;
@@ -114,8 +121,11 @@ invariant_of-self-in_err-write_runs g_ c =
       unit = no.unit;
       end = no.end;
       limit = no.limit;
-    } in
-    whole_after s.header s.pages s.overlay c.place_changes.new.overlay s.room c.place_changes.new.room s.fresh s.len c.args.changes.items ps planned f c.note_all.new.overlay c.note_all.new.room c.note_all.new.fresh g
+    } in (
+      whole_after s.header s.pages s.overlay c.place_changes.new.overlay s.room c.place_changes.new.room s.fresh s.len c.args.changes.items ps planned f c.note_all.new.overlay c.note_all.new.room c.note_all.new.fresh g,
+      subst (ArePlaces (seen s.header s.pages c.note_all.new.overlay c.note_all.new.room planned.end)) (sym (c.forget_changed.ensures ∙ ap (λ l. without (left_by c.place_changes.new.overlay l) s.cache) c.deref.ensures.value))
+          (places_after s.header s.pages s.overlay c.place_changes.new.overlay s.room c.place_changes.new.room s.fresh s.len c.args.changes.items ps planned f s.cache c.self.invariant.1 c.note_all.new.overlay c.note_all.new.room c.note_all.new.fresh g),
+    )
 
 pub invariant_of-self-2 : goal.invariant_of-self-2
 invariant_of-self-2 g_ c =
@@ -124,7 +134,7 @@ invariant_of-self-2 g_ c =
     let planned = c.in_ok-placed.field-0.planned in
     let pl = c.in_ok-placed.ensures in
     let f : IsPlaced s.header s.pages s.overlay c.place_changes.new.overlay s.room c.place_changes.new.room s.fresh s.len c.args.changes.items ps planned = record {
-      whole = c.self.invariant;
+      whole = c.self.invariant.0;
       is = c.requires.changes;
       are = pl.changes;
       sizes = pl.sizes;
@@ -138,7 +148,7 @@ invariant_of-self-2 g_ c =
       is_room = pl.is_room;
     } in
     let no = c.note_all.ensures in
-    let same_ps = c.deref.ensures.value in
+    let same_ps = c.deref-2.ensures.value in
     let g : IsNoted c.place_changes.new.overlay c.note_all.new.overlay c.place_changes.new.room c.note_all.new.room c.note_all.new.fresh ps = record {
       session = no.session;
       changes_are = λ space. no.changes space ∙ ap (λ l. noted l space (changes_of c.place_changes.new.overlay space)) same_ps;
@@ -147,8 +157,11 @@ invariant_of-self-2 g_ c =
       unit = no.unit;
       end = no.end;
       limit = no.limit;
-    } in
-    whole_after s.header s.pages s.overlay c.place_changes.new.overlay s.room c.place_changes.new.room s.fresh s.len c.args.changes.items ps planned f c.note_all.new.overlay c.note_all.new.room c.note_all.new.fresh g
+    } in (
+      whole_after s.header s.pages s.overlay c.place_changes.new.overlay s.room c.place_changes.new.room s.fresh s.len c.args.changes.items ps planned f c.note_all.new.overlay c.note_all.new.room c.note_all.new.fresh g,
+      subst (ArePlaces (seen s.header s.pages c.note_all.new.overlay c.note_all.new.room planned.end)) (sym (c.forget_changed.ensures ∙ ap (λ l. without (left_by c.place_changes.new.overlay l) s.cache) c.deref.ensures.value))
+          (places_after s.header s.pages s.overlay c.place_changes.new.overlay s.room c.place_changes.new.room s.fresh s.len c.args.changes.items ps planned f s.cache c.self.invariant.1 c.note_all.new.overlay c.note_all.new.room c.note_all.new.fresh g),
+    )
 
 pub returns-in_err-write_runs-clause-any_moment : goal.returns-in_err-write_runs-clause-any_moment
 returns-in_err-write_runs-clause-any_moment g_ c told =
@@ -157,7 +170,7 @@ returns-in_err-write_runs-clause-any_moment g_ c told =
     let planned = c.in_ok-placed.field-0.planned in
     let pl = c.in_ok-placed.ensures in
     let f : IsPlaced s.header s.pages s.overlay c.place_changes.new.overlay s.room c.place_changes.new.room s.fresh s.len c.args.changes.items ps planned = record {
-      whole = c.self.invariant;
+      whole = c.self.invariant.0;
       is = c.requires.changes;
       are = pl.changes;
       sizes = pl.sizes;
@@ -171,9 +184,10 @@ returns-in_err-write_runs-clause-any_moment g_ c told =
       is_room = pl.is_room;
     } in
     let old = g_.H.Host.disk c.args.host.now in
-    let agrees : Agrees (seen s.header s.pages s.overlay s.room s.len) old = subst (λ v. Agrees v old) (sym c.self.view_is) (c.requires.agrees told) in
+    let agreed : Agrees (parts s.header s.pages s.overlay s.room s.len s.cache) old = subst (λ v. Agrees v old) (sym c.self.view_is) (c.requires.agrees told) in
+    let agrees : Agrees (seen s.header s.pages s.overlay s.room s.len) old = agrees_bare (parts s.header s.pages s.overlay s.room s.len s.cache) old agreed in
     let new = g_.H.Host.disk c.write_runs.new.host in
-    let runs = c.deref-2.ensures.value in
+    let runs = c.deref-3.ensures.value in
     subst (λ (v : Slots). LeavesOnly old new (Before v.header v.pages old)) c.self.view_is
     (c.write_runs.ensures.any_moment told s.header s.pages.pages (subst (λ l. Rattle.oc_slots.specs.Writing.AreFree s.header s.pages.pages (as_pieces l)) (sym runs) (frees s.header s.pages s.overlay c.place_changes.new.overlay s.room c.place_changes.new.room s.fresh s.len c.args.changes.items ps planned f old agrees)) agrees.holds)
 
@@ -184,7 +198,7 @@ returns-clause-any_moment g_ c told =
     let planned = c.in_ok-placed.field-0.planned in
     let pl = c.in_ok-placed.ensures in
     let f : IsPlaced s.header s.pages s.overlay c.place_changes.new.overlay s.room c.place_changes.new.room s.fresh s.len c.args.changes.items ps planned = record {
-      whole = c.self.invariant;
+      whole = c.self.invariant.0;
       is = c.requires.changes;
       are = pl.changes;
       sizes = pl.sizes;
@@ -198,9 +212,10 @@ returns-clause-any_moment g_ c told =
       is_room = pl.is_room;
     } in
     let old = g_.H.Host.disk c.args.host.now in
-    let agrees : Agrees (seen s.header s.pages s.overlay s.room s.len) old = subst (λ v. Agrees v old) (sym c.self.view_is) (c.requires.agrees told) in
+    let agreed : Agrees (parts s.header s.pages s.overlay s.room s.len s.cache) old = subst (λ v. Agrees v old) (sym c.self.view_is) (c.requires.agrees told) in
+    let agrees : Agrees (seen s.header s.pages s.overlay s.room s.len) old = agrees_bare (parts s.header s.pages s.overlay s.room s.len s.cache) old agreed in
     let new = g_.H.Host.disk c.write_runs.new.host in
-    let runs = c.deref-2.ensures.value in
+    let runs = c.deref-3.ensures.value in
     subst (λ (v : Slots). LeavesOnly old new (Before v.header v.pages old)) c.self.view_is
     (c.write_runs.ensures.any_moment told s.header s.pages.pages (subst (λ l. Rattle.oc_slots.specs.Writing.AreFree s.header s.pages.pages (as_pieces l)) (sym runs) (frees s.header s.pages s.overlay c.place_changes.new.overlay s.room c.place_changes.new.room s.fresh s.len c.args.changes.items ps planned f old agrees)) agrees.holds)
 
@@ -211,7 +226,7 @@ returns-clause-agrees g_ c told =
     let planned = c.in_ok-placed.field-0.planned in
     let pl = c.in_ok-placed.ensures in
     let f : IsPlaced s.header s.pages s.overlay c.place_changes.new.overlay s.room c.place_changes.new.room s.fresh s.len c.args.changes.items ps planned = record {
-      whole = c.self.invariant;
+      whole = c.self.invariant.0;
       is = c.requires.changes;
       are = pl.changes;
       sizes = pl.sizes;
@@ -225,7 +240,7 @@ returns-clause-agrees g_ c told =
       is_room = pl.is_room;
     } in
     let no = c.note_all.ensures in
-    let same_ps = c.deref.ensures.value in
+    let same_ps = c.deref-2.ensures.value in
     let g : IsNoted c.place_changes.new.overlay c.note_all.new.overlay c.place_changes.new.room c.note_all.new.room c.note_all.new.fresh ps = record {
       session = no.session;
       changes_are = λ space. no.changes space ∙ ap (λ l. noted l space (changes_of c.place_changes.new.overlay space)) same_ps;
@@ -236,11 +251,18 @@ returns-clause-agrees g_ c told =
       limit = no.limit;
     } in
     let old = g_.H.Host.disk c.args.host.now in
-    let agrees : Agrees (seen s.header s.pages s.overlay s.room s.len) old = subst (λ v. Agrees v old) (sym c.self.view_is) (c.requires.agrees told) in
+    let agreed : Agrees (parts s.header s.pages s.overlay s.room s.len s.cache) old = subst (λ v. Agrees v old) (sym c.self.view_is) (c.requires.agrees told) in
+    let agrees : Agrees (seen s.header s.pages s.overlay s.room s.len) old = agrees_bare (parts s.header s.pages s.overlay s.room s.len s.cache) old agreed in
     let new = g_.H.Host.disk c.write_runs.new.host in
-    let runs = c.deref-2.ensures.value in
+    let runs = c.deref-3.ensures.value in
     let free = subst (λ l. Rattle.oc_slots.specs.Writing.AreFree s.header s.pages.pages (as_pieces l)) (sym runs) (frees s.header s.pages s.overlay c.place_changes.new.overlay s.room c.place_changes.new.room s.fresh s.len c.args.changes.items ps planned f old agrees) in
-    agrees_after s.header s.pages s.overlay c.place_changes.new.overlay s.room c.place_changes.new.room s.fresh s.len c.args.changes.items ps planned f old agrees c.note_all.new.overlay c.note_all.new.room c.note_all.new.fresh g new (c.in_ok-write_runs.ensures.bytes told ∙ ap (λ l. over_all (as_pieces l) old.bytes) runs) (c.in_ok-write_runs.ensures.keeps told s.header s.pages.pages free)
+    let wrote = c.in_ok-write_runs.ensures.bytes told ∙ ap (λ l. over_all (as_pieces l) old.bytes) runs in
+    let keeps = c.in_ok-write_runs.ensures.keeps told s.header s.pages.pages free in
+    let gone = c.forget_changed.ensures ∙ ap (λ l. without (left_by c.place_changes.new.overlay l) s.cache) c.deref.ensures.value in
+    agrees_with (seen s.header s.pages c.note_all.new.overlay c.note_all.new.room planned.end) new c.forget_changed.new.cache
+    (agrees_after s.header s.pages s.overlay c.place_changes.new.overlay s.room c.place_changes.new.room s.fresh s.len c.args.changes.items ps planned f old agrees c.note_all.new.overlay c.note_all.new.room c.note_all.new.fresh g new wrote keeps)
+    (subst (AreRead (unit_of s.header) new.bytes) (sym gone)
+    (reads_after s.header s.pages s.overlay c.place_changes.new.overlay s.room c.place_changes.new.room s.fresh s.len c.args.changes.items ps planned f s.cache c.self.invariant.1 old agrees new wrote keeps (left_by c.place_changes.new.overlay ps) agreed.cached))
 
 pub returns-clause-session : goal.returns-clause-session
 returns-clause-session g_ c told =
@@ -249,7 +271,7 @@ returns-clause-session g_ c told =
     let planned = c.in_ok-placed.field-0.planned in
     let pl = c.in_ok-placed.ensures in
     let f : IsPlaced s.header s.pages s.overlay c.place_changes.new.overlay s.room c.place_changes.new.room s.fresh s.len c.args.changes.items ps planned = record {
-      whole = c.self.invariant;
+      whole = c.self.invariant.0;
       is = c.requires.changes;
       are = pl.changes;
       sizes = pl.sizes;
@@ -263,7 +285,7 @@ returns-clause-session g_ c told =
       is_room = pl.is_room;
     } in
     let no = c.note_all.ensures in
-    let same_ps = c.deref.ensures.value in
+    let same_ps = c.deref-2.ensures.value in
     let g : IsNoted c.place_changes.new.overlay c.note_all.new.overlay c.place_changes.new.room c.note_all.new.room c.note_all.new.fresh ps = record {
       session = no.session;
       changes_are = λ space. no.changes space ∙ ap (λ l. noted l space (changes_of c.place_changes.new.overlay space)) same_ps;
@@ -274,9 +296,10 @@ returns-clause-session g_ c told =
       limit = no.limit;
     } in
     let old = g_.H.Host.disk c.args.host.now in
-    let agrees : Agrees (seen s.header s.pages s.overlay s.room s.len) old = subst (λ v. Agrees v old) (sym c.self.view_is) (c.requires.agrees told) in
+    let agreed : Agrees (parts s.header s.pages s.overlay s.room s.len s.cache) old = subst (λ v. Agrees v old) (sym c.self.view_is) (c.requires.agrees told) in
+    let agrees : Agrees (seen s.header s.pages s.overlay s.room s.len) old = agrees_bare (parts s.header s.pages s.overlay s.room s.len s.cache) old agreed in
     let new = g_.H.Host.disk c.write_runs.new.host in
-    let runs = c.deref-2.ensures.value in
+    let runs = c.deref-3.ensures.value in
     let free = subst (λ l. Rattle.oc_slots.specs.Writing.AreFree s.header s.pages.pages (as_pieces l)) (sym runs) (frees s.header s.pages s.overlay c.place_changes.new.overlay s.room c.place_changes.new.room s.fresh s.len c.args.changes.items ps planned f old agrees) in
     subst (λ (v : Slots). Same (session (seen s.header s.pages c.note_all.new.overlay c.note_all.new.room planned.end) new) (changed c.args.changes.items (session v old))) c.self.view_is
     (session_after s.header s.pages s.overlay c.place_changes.new.overlay s.room c.place_changes.new.room s.fresh s.len c.args.changes.items ps planned f old agrees c.note_all.new.overlay c.note_all.new.room c.note_all.new.fresh g new (c.in_ok-write_runs.ensures.bytes told ∙ ap (λ l. over_all (as_pieces l) old.bytes) runs) (c.in_ok-write_runs.ensures.keeps told s.header s.pages.pages free))
@@ -288,7 +311,7 @@ returns-clause-committed g_ c told =
     let planned = c.in_ok-placed.field-0.planned in
     let pl = c.in_ok-placed.ensures in
     let f : IsPlaced s.header s.pages s.overlay c.place_changes.new.overlay s.room c.place_changes.new.room s.fresh s.len c.args.changes.items ps planned = record {
-      whole = c.self.invariant;
+      whole = c.self.invariant.0;
       is = c.requires.changes;
       are = pl.changes;
       sizes = pl.sizes;
@@ -302,9 +325,48 @@ returns-clause-committed g_ c told =
       is_room = pl.is_room;
     } in
     let old = g_.H.Host.disk c.args.host.now in
-    let agrees : Agrees (seen s.header s.pages s.overlay s.room s.len) old = subst (λ v. Agrees v old) (sym c.self.view_is) (c.requires.agrees told) in
+    let agreed : Agrees (parts s.header s.pages s.overlay s.room s.len s.cache) old = subst (λ v. Agrees v old) (sym c.self.view_is) (c.requires.agrees told) in
+    let agrees : Agrees (seen s.header s.pages s.overlay s.room s.len) old = agrees_bare (parts s.header s.pages s.overlay s.room s.len s.cache) old agreed in
     let new = g_.H.Host.disk c.write_runs.new.host in
-    let runs = c.deref-2.ensures.value in
+    let runs = c.deref-3.ensures.value in
     let free = subst (λ l. Rattle.oc_slots.specs.Writing.AreFree s.header s.pages.pages (as_pieces l)) (sym runs) (frees s.header s.pages s.overlay c.place_changes.new.overlay s.room c.place_changes.new.room s.fresh s.len c.args.changes.items ps planned f old agrees) in
     subst (λ (v : Slots). Same (committed (seen s.header s.pages c.note_all.new.overlay c.note_all.new.room planned.end) new) (committed v old)) c.self.view_is
     ((c.in_ok-write_runs.ensures.keeps told s.header s.pages.pages free).same agrees.holds)
+
+pub returns-clause-kept : goal.returns-clause-kept
+returns-clause-kept g_ c =
+    let s = c.self.inside in
+    let ps = c.in_ok-placed.field-0.placed.items in
+    let planned = c.in_ok-placed.field-0.planned in
+    let pl = c.in_ok-placed.ensures in
+    let f : IsPlaced s.header s.pages s.overlay c.place_changes.new.overlay s.room c.place_changes.new.room s.fresh s.len c.args.changes.items ps planned = record {
+      whole = c.self.invariant.0;
+      is = c.requires.changes;
+      are = pl.changes;
+      sizes = pl.sizes;
+      opened = pl.open;
+      back = pl.back;
+      plan = subst (λ u. IsPlanned u s.len (slots_of ps) planned) c.unit-unit.ensures pl.planned;
+      spare = pl.room_spare;
+      same = pl.same;
+      unit = pl.unit;
+      limit = pl.limit;
+      is_room = pl.is_room;
+    } in
+    let no = c.note_all.ensures in
+    let same_ps = c.deref-2.ensures.value in
+    let g : IsNoted c.place_changes.new.overlay c.note_all.new.overlay c.place_changes.new.room c.note_all.new.room c.note_all.new.fresh ps = record {
+      session = no.session;
+      changes_are = λ space. no.changes space ∙ ap (λ l. noted l space (changes_of c.place_changes.new.overlay space)) same_ps;
+      moved = λ k. no.moved k ∙ ap (λ l. free_at c.place_changes.new.room.parts k + owners c.place_changes.new.room.unit (fresh_of c.place_changes.new.overlay) k + owners c.place_changes.new.room.unit (cells_of l) k) same_ps;
+      members = λ x there. subst (λ l. Contains (fresh_of c.place_changes.new.overlay ++ cells_of l) x) same_ps (no.members x there);
+      unit = no.unit;
+      end = no.end;
+      limit = no.limit;
+    } in
+    let q = c.note_all.new.overlay in
+    let t = c.note_all.new.room in
+    let gone : c.forget_changed.new.cache ≡ without (left_by c.place_changes.new.overlay ps) s.cache = c.forget_changed.ensures ∙ ap (λ l. without (left_by c.place_changes.new.overlay l) s.cache) c.deref.ensures.value in
+    let those = those_after s.header s.pages s.overlay c.place_changes.new.overlay s.room c.place_changes.new.room s.fresh s.len c.args.changes.items ps planned f s.cache c.self.invariant.1 q t c.note_all.new.fresh g c.forget_changed.new.cache in
+    subst (λ (v : Slots). AreThose (IsPlace (parts s.header s.pages q t planned.end c.forget_changed.new.cache)) (kept v) (keys_of c.forget_changed.new.cache)) c.self.view_is
+    (subst (λ (es : Cached). AreThose (IsPlace (parts s.header s.pages q t planned.end c.forget_changed.new.cache)) (keys_of s.cache) (keys_of es)) (sym gone) those)
