@@ -1,0 +1,13 @@
+pub mod IndexedKinds
+pub mod Classes
+pub mod Ends
+pub mod FieldLists
+pub mod JustThese
+pub mod NamedLists
+pub mod Fetched
+pub mod Fresh
+pub mod OneList
+pub mod OneStore
+pub mod Outlined
+pub mod Readings
+pub mod Taken
