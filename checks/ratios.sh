@@ -10,12 +10,14 @@ parts=$PWD/crates/bench_parts/out/bench_parts
 [ -x "$bench" ] && [ -x "$parts" ] || { echo "skipped: the programs for measuring aren't built; rt ci leaves them"; exit 0; }
 command -v awk >/dev/null || { echo "skipped: there is no awk here"; exit 0; }
 
-# user PIECE COUNT TURNS: the user time of so many runs, in milliseconds.
+# user PIECE COUNT TURNS: the user time of so many runs, in milliseconds. A piece that needs a file gets a new one in each.
+file=
 user() {
     (
         turn=0
         while [ "$turn" -lt "$3" ]; do
-            "$bench" "$1" "$2" >/dev/null || exit 1
+            [ -z "$file" ] || rm -f "$file"
+            "$bench" "$1" "$2" ${file:+"$file"} >/dev/null || exit 1
             turn=$((turn + 1))
         done
         times
@@ -70,3 +72,9 @@ grows activate_complete 400 800 40 4.8
 grows activate_cycle 1000 4000 200 4.8
 grows index 100000 400000 2 4.8
 faster index map 100000 4 20
+
+room=$(mktemp -d)
+trap 'rm -rf "$room"' EXIT
+trap 'exit 1' HUP INT TERM
+file=$room/slots.oc
+grows slots 100000 400000 4 4.6

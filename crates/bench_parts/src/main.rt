@@ -1,16 +1,21 @@
 //! `bench_parts PIECE COUNT`: plans a walk over a graph of so many objects, or puts so many entries into a list, and
-//! says how many it reaches or has. Whoever starts it takes its time.
+//! says how many it reaches or has. `bench_parts slots COUNT FILE` writes so many slots to a file, fetches them, and says
+//! what was asked of the file. Whoever starts it takes its time.
 #![tactic(auto)]
 
+mod counting;
 mod fault;
 mod inserts;
+mod slots;
 mod walks;
 
+use counting::{Counting, Counts};
 use fault::Fault;
+use oc_host::FileHost;
 use std::alloc::Global;
 use std::env;
 use std::process::ExitCode;
-use std::rt::Env;
+use std::rt::{Env, Files};
 use walks::Shape;
 
 /// What the words ask for.
@@ -18,9 +23,10 @@ use walks::Shape;
 struct Work {
     piece: String,
     count: u32,
+    file: Option<String>,
 }
 
-/// The two words behind the program's name; nothing where they are others.
+/// The words behind the program's name; nothing where they are others.
 fn work_of<R: Env + AllocGlobal>(rt: &R) -> Result<Option<Work>, Fault> {
     let mut words = env::args(rt)?.skip(1);
     let (Some(piece), Some(count)) = (words.next(), words.next()) else {
@@ -29,7 +35,8 @@ fn work_of<R: Env + AllocGlobal>(rt: &R) -> Result<Option<Work>, Fault> {
     let Ok(count) = count.as_str().parse::<u32>() else {
         return Ok(None);
     };
-    Ok(Some(Work { piece, count }))
+    let file = words.next();
+    Ok(Some(Work { piece, count, file }))
 }
 
 /// How many objects are reached, or entries are there; nothing where there is no such piece.
@@ -46,11 +53,39 @@ fn counted(alloc: Global, work: &Work) -> Result<Option<u64>, Fault> {
     }
 }
 
-fn bench<R: Env + Print + AllocGlobal>(rt: &R) -> Result<ExitCode, Fault> {
+/// Writes slots to this file, and says what came of it.
+fn bench_file<R: Files + Print + AllocGlobal>(
+    rt: &R,
+    work: &Work,
+    file: &str,
+) -> Result<ExitCode, Fault> {
+    if work.count > slots::MOST {
+        println!(rt; "there are too many")?;
+        return Ok(ExitCode::from(2));
+    }
+    let mut host = Counting::of(FileHost::at(rt.alloc(), rt, file)?);
+    slots::write_and_fetch(rt.alloc(), &mut host, work.count)?;
+    let Counts {
+        writes,
+        syncs,
+        written,
+        read,
+    } = host.counts;
+    println!(rt;
+        "slots {}: {writes} writes, {syncs} syncs, {written} bytes written, {read} bytes read",
+        work.count
+    )?;
+    Ok(ExitCode::SUCCESS)
+}
+
+fn bench<R: Env + Files + Print + AllocGlobal>(rt: &R) -> Result<ExitCode, Fault> {
     let Some(work) = work_of(rt)? else {
-        println!(rt; "bench_parts PIECE COUNT")?;
+        println!(rt; "bench_parts PIECE COUNT [FILE]")?;
         return Ok(ExitCode::from(2));
     };
+    if let Some(file) = &work.file {
+        return bench_file(rt, &work, file);
+    }
     let Some(count) = counted(rt.alloc(), &work)? else {
         println!(rt; "there is no such piece")?;
         return Ok(ExitCode::from(2));
