@@ -112,46 +112,6 @@ fn a_commit_without_room_changes_nothing(rt: HostRuntime) -> Result<(), Fail> {
     Ok(())
 }
 
-// The lengths of the file after a change, its commit, and another change and commit, in blocks of so many bytes.
-fn lengths_in_blocks(alloc: Global, block: u32) -> Result<Option<[usize; 4]>, AllocError>
-    requires { (1 ≤ block) × (block ≤ 127) }
-{
-    let mut host = empty(alloc)?;
-    let mut lengths = [0; 4];
-    let Ok(mut store) = SlotStore::attach(alloc, &mut host, &making(128, Some(block))) else {
-        return Ok(None);
-    };
-    for (index, step) in [(1, 20), (2, 30)].into_iter().enumerate() {
-        let (number, len) = step;
-        if store
-            .change(&mut host, one(alloc, number, 7, len)?)
-            .is_err()
-        {
-            return Ok(None);
-        }
-        lengths[2 * index] = host.memory.bytes().len();
-        if store.commit(&mut host, nothing(alloc)).is_err() {
-            return Ok(None);
-        }
-        lengths[2 * index + 1] = host.memory.bytes().len();
-    }
-    Ok(Some(lengths))
-}
-
-#[test]
-fn things_stand_at_blocks(rt: HostRuntime) -> Result<(), Fail> {
-    let alloc = rt.alloc();
-    assert_eq!(rt;
-        lengths_in_blocks(alloc, 16)?,
-        Some([148, 1204, 1214, 1236])
-    );
-    assert_eq!(rt;
-        lengths_in_blocks(alloc, 64)?,
-        Some([148, 1236, 1246, 1300])
-    );
-    Ok(())
-}
-
 // What a commit of one slot of so many bytes answers in 128 blocks.
 fn full_in_blocks(
     alloc: Global,
@@ -258,69 +218,6 @@ fn a_call_that_fails_leaves_a_commit(rt: HostRuntime) -> Result<(), Fail> {
         assert!(rt;
             host.memory.bytes().len() <= 128 || shown == Some(done) || shown == Some(done + 1)
         );
-    }
-    Ok(())
-}
-
-// A number that looks drawn at random, and the next one.
-fn next(seed: u64) -> u64 {
-    seed.wrapping_mul(6_364_136_223_846_793_005)
-        .wrapping_add(1_442_695_040_888_963_407)
-}
-
-const SLOTS: usize = 40;
-
-// What each of the slots has: so many bytes of this value.
-type Shadow = [(u8, usize); SLOTS];
-
-fn is_like(store: &mut SlotStore, host: &mut Quiet, side: Side, shadow: &Shadow) -> bool {
-    for slot in 0..SLOTS {
-        let (value, len) = shadow[slot];
-        if !on(store, host, side, slot as u32 + 1, value, len) {
-            return false;
-        }
-    }
-    true
-}
-
-#[test]
-fn many_steps_are_those_of_two_maps(rt: HostRuntime) -> Result<(), Fail> {
-    let alloc = rt.alloc();
-    let mut host = empty(alloc)?;
-    let mut store = SlotStore::attach(alloc, &mut host, &making(100_000, None)).expect(
-        &rt,
-        "a container",
-    );
-    let mut session: Shadow = [(0, 0); SLOTS];
-    let mut committed = session;
-    let mut seed = 7;
-    for step in 0..30 {
-        seed = next(seed);
-        let slot = (seed >> 33) as usize % SLOTS;
-        let entry = (step as u8 + 1, (seed >> 20) as usize % 60);
-        let change = one(alloc, slot as u32 + 1, entry.0, entry.1)?;
-        match (seed >> 40) % 4 {
-            0 | 1 => {
-                store.change(&mut host, change).expect(&rt, "a change");
-                session[slot] = entry;
-            }
-            2 => {
-                store.commit(&mut host, change).expect(&rt, "a commit");
-                session[slot] = entry;
-                committed = session;
-                let (mut again, mut file) = reopened(alloc, host.memory.bytes())?.expect(
-                    &rt,
-                    "a container",
-                );
-                assert!(rt; is_like(&mut again, &mut file, Side::Session, &committed));
-            }
-            _ => {
-                store.rollback();
-                session = committed;
-            }
-        }
-        assert!(rt; is_like(&mut store, &mut host, Side::Session, &session));
-        assert!(rt; is_like(&mut store, &mut host, Side::Committed, &committed));
     }
     Ok(())
 }
