@@ -112,6 +112,57 @@ fn a_commit_without_room_changes_nothing(rt: HostRuntime) -> Result<(), Fail> {
     Ok(())
 }
 
+// The lengths of the file after a change of this slot, and after its commit.
+fn lengths_of_a_commit(
+    alloc: Global,
+    store: &mut SlotStore,
+    host: &mut Quiet,
+    number: u32,
+    len: usize,
+) -> Result<Option<(usize, usize)>, AllocError>
+    requires { (1 ≤ number) × (number ≤ 2147483646) }
+{
+    if store.change(host, one(alloc, number, 7, len)?).is_err() {
+        return Ok(None);
+    }
+    let changed = host.memory.bytes().len();
+    if store.commit(host, nothing(alloc)).is_err() {
+        return Ok(None);
+    }
+    Ok(Some((changed, host.memory.bytes().len())))
+}
+
+// The lengths of the file after a change, its commit, and another change and commit, in blocks of so many bytes.
+fn lengths_in_blocks(alloc: Global, block: u32) -> Result<Option<[usize; 4]>, AllocError>
+    requires { (1 ≤ block) × (block ≤ 127) }
+{
+    let mut host = empty(alloc)?;
+    let Ok(mut store) = SlotStore::attach(alloc, &mut host, &making(128, Some(block))) else {
+        return Ok(None);
+    };
+    let Some((first, second)) = lengths_of_a_commit(alloc, &mut store, &mut host, 1, 20)? else {
+        return Ok(None);
+    };
+    let Some((third, fourth)) = lengths_of_a_commit(alloc, &mut store, &mut host, 2, 30)? else {
+        return Ok(None);
+    };
+    Ok(Some([first, second, third, fourth]))
+}
+
+#[test]
+fn things_stand_at_blocks(rt: HostRuntime) -> Result<(), Fail> {
+    let alloc = rt.alloc();
+    assert_eq!(rt;
+        lengths_in_blocks(alloc, 16)?,
+        Some([148, 1204, 1214, 1236])
+    );
+    assert_eq!(rt;
+        lengths_in_blocks(alloc, 64)?,
+        Some([148, 1236, 1246, 1300])
+    );
+    Ok(())
+}
+
 // What a commit of one slot of so many bytes answers in 128 blocks.
 fn full_in_blocks(
     alloc: Global,
