@@ -273,6 +273,69 @@ fn a_call_that_fails_leaves_a_commit(rt: HostRuntime) -> Result<(), Fail> {
     Ok(())
 }
 
+// A number that looks drawn at random, and the next one.
+fn next(seed: u64) -> u64 {
+    seed.wrapping_mul(6_364_136_223_846_793_005)
+        .wrapping_add(1_442_695_040_888_963_407)
+}
+
+const SLOTS: usize = 40;
+
+// What each of the slots has: so many bytes of this value.
+type Shadow = [(u8, usize); SLOTS];
+
+fn is_like(store: &mut SlotStore, host: &mut Quiet, side: Side, shadow: &Shadow) -> bool {
+    for slot in 0..SLOTS {
+        let (value, len) = shadow[slot];
+        if !on(store, host, side, slot as u32 + 1, value, len) {
+            return false;
+        }
+    }
+    true
+}
+
+#[test]
+fn many_steps_are_those_of_two_maps(rt: HostRuntime) -> Result<(), Fail> {
+    let alloc = rt.alloc();
+    let mut host = empty(alloc)?;
+    let mut store = SlotStore::attach(alloc, &mut host, &making(100_000, None)).expect(
+        &rt,
+        "a container",
+    );
+    let mut session: Shadow = [(0, 0); SLOTS];
+    let mut committed = session;
+    let mut seed = 7;
+    for value in 1..=30_u8 {
+        seed = next(seed);
+        let slot = (seed >> 33) as usize % SLOTS;
+        let entry = (value, (seed >> 20) as usize % 60);
+        let change = one(alloc, slot as u32 + 1, entry.0, entry.1)?;
+        match (seed >> 40) % 4 {
+            0 | 1 => {
+                store.change(&mut host, change).expect(&rt, "a change");
+                session[slot] = entry;
+            }
+            2 => {
+                store.commit(&mut host, change).expect(&rt, "a commit");
+                session[slot] = entry;
+                committed = session;
+                let (mut again, mut file) = reopened(alloc, host.memory.bytes())?.expect(
+                    &rt,
+                    "a container",
+                );
+                assert!(rt; is_like(&mut again, &mut file, Side::Session, &committed));
+            }
+            _ => {
+                store.rollback();
+                session = committed;
+            }
+        }
+        assert!(rt; is_like(&mut store, &mut host, Side::Session, &session));
+        assert!(rt; is_like(&mut store, &mut host, Side::Committed, &committed));
+    }
+    Ok(())
+}
+
 // A file with slots of 32, 10 and 63 bytes, of which the last is that of a commit.
 fn three_slots(alloc: Global) -> Result<Option<Quiet>, AllocError> {
     let mut host = empty(alloc)?;
