@@ -78,3 +78,5 @@ trap 'rm -rf "$room"' EXIT
 trap 'exit 1' HUP INT TERM
 file=$room/slots.oc
 grows slots 100000 400000 4 4.6
+file=$room/objects.oc
+grows objects 100000 400000 2 4.8

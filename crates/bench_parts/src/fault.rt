@@ -2,6 +2,7 @@
 
 use oc_host::IoFault;
 use oc_slots::{AttachFault, SpaceFault};
+use oc_store::{ChangeFault, ReadFault, StartFault};
 use std::alloc::{AllocError, AllocFailed};
 use std::io;
 
@@ -14,7 +15,7 @@ pub enum Fault {
     File,
     /// The file would be too long.
     Full,
-    /// A slot that was written isn't there.
+    /// A slot or an object that was written isn't there, or is damaged.
     Lost,
 }
 
@@ -60,6 +61,37 @@ impl From<IoFault> for Fault {
         match fault {
             IoFault::Memory => Fault::Memory,
             IoFault::Host => Fault::File,
+        }
+    }
+}
+
+impl From<StartFault> for Fault {
+    fn from(fault: StartFault) -> Fault {
+        match fault {
+            StartFault::Memory => Fault::Memory,
+            StartFault::Host | StartFault::NotAContainer => Fault::File,
+            StartFault::Damaged { .. } => Fault::Lost,
+        }
+    }
+}
+
+impl From<ReadFault> for Fault {
+    fn from(fault: ReadFault) -> Fault {
+        match fault {
+            ReadFault::Memory => Fault::Memory,
+            ReadFault::Host => Fault::File,
+            ReadFault::Damaged { .. } => Fault::Lost,
+        }
+    }
+}
+
+impl From<ChangeFault> for Fault {
+    fn from(fault: ChangeFault) -> Fault {
+        match fault {
+            ChangeFault::Memory => Fault::Memory,
+            ChangeFault::Host => Fault::File,
+            ChangeFault::Damaged { .. } => Fault::Lost,
+            ChangeFault::Full { .. } => Fault::Full,
         }
     }
 }

@@ -1,16 +1,21 @@
 //! `bench_parts PIECE COUNT`: plans a walk over a graph of so many objects, or puts so many entries into a list, and
-//! says how many it reaches or has. `bench_parts slots COUNT FILE` writes so many slots to a file, fetches them, and says
-//! what was asked of the file. Whoever starts it takes its time.
+//! says how many it reaches or has. `bench_parts slots COUNT FILE` writes so many slots to a file and fetches them,
+//! `objects` and `objects_scattered` store so many objects whose numbers ascend or are scattered, and `opened` attaches
+//! the store of a file; each says what was asked of the file. Whoever starts it takes its time.
 #![tactic(auto)]
+
+ghost use Rattle.std.specs.Prelude.{◌≤◌};
 
 mod counting;
 mod fault;
 mod inserts;
+mod objects;
 mod slots;
 mod walks;
 
 use counting::{Counting, Counts};
 use fault::Fault;
+use objects::Keys;
 use oc_host::FileHost;
 use std::alloc::Global;
 use std::env;
@@ -53,18 +58,56 @@ fn counted(alloc: Global, work: &Work) -> Result<Option<u64>, Fault> {
     }
 }
 
-/// Writes slots to this file, and says what came of it.
+/// What is done with a file.
+#[derive(Clone, Copy, PartialEq, Eq)]
+enum FilePiece {
+    Slots,
+    Objects(Keys),
+    Opened,
+}
+
+fn file_piece(name: &str) -> Option<FilePiece> {
+    match name {
+        "slots" => Some(FilePiece::Slots),
+        "objects" => Some(FilePiece::Objects(Keys::Ascending)),
+        "objects_scattered" => Some(FilePiece::Objects(Keys::Scattered)),
+        "opened" => Some(FilePiece::Opened),
+        _ => None,
+    }
+}
+
+/// Does this with the file.
+fn work_on<R: Files + Print>(
+    alloc: Global,
+    host: &mut Counting<'_, R>,
+    piece: FilePiece,
+    count: u32,
+) -> Result<(), Fault>
+    requires { count ≤ 2000000 }
+{
+    match piece {
+        FilePiece::Slots => slots::write_and_fetch(alloc, host, count),
+        FilePiece::Objects(keys) => objects::store_all(alloc, host, keys, count),
+        FilePiece::Opened => objects::attach(alloc, host, count),
+    }
+}
+
+/// Works on this file, and says what was asked of it.
 fn bench_file<R: Files + Print + AllocGlobal>(
     rt: &R,
     work: &Work,
     file: &str,
 ) -> Result<ExitCode, Fault> {
+    let Some(piece) = file_piece(work.piece.as_str()) else {
+        println!(rt; "there is no such piece")?;
+        return Ok(ExitCode::from(2));
+    };
     if work.count > slots::MOST {
         println!(rt; "there are too many")?;
         return Ok(ExitCode::from(2));
     }
     let mut host = Counting::of(FileHost::at(rt.alloc(), rt, file)?);
-    slots::write_and_fetch(rt.alloc(), &mut host, work.count)?;
+    work_on(rt.alloc(), &mut host, piece, work.count)?;
     let Counts {
         writes,
         syncs,
@@ -72,8 +115,8 @@ fn bench_file<R: Files + Print + AllocGlobal>(
         read,
     } = host.counts;
     println!(rt;
-        "slots {}: {writes} writes, {syncs} syncs, {written} bytes written, {read} bytes read",
-        work.count
+        "{} {}: {writes} writes, {syncs} syncs, {written} bytes written, {read} bytes read",
+        work.piece, work.count
     )?;
     Ok(ExitCode::SUCCESS)
 }

@@ -8,7 +8,7 @@ ghost use Rattle.oc_model.specs.Spelling.{class_bytes, counted};
 ghost use Rattle.oc_catalog.specs.Drafts.{are_few, head_bytes, is_class};
 ghost use Rattle.oc_catalog.specs.Catalogs.{AreLists, IsNext, SpellsCatalog};
 
-use crate::catalog::Catalog;
+use crate::catalog::{Catalog, ListEntry};
 use crate::parts::{Part, write_many};
 use oc_schema::Schema;
 use std::alloc::{AllocError, Global};
@@ -20,11 +20,30 @@ pub fn write_catalog(alloc: Global, catalog: &Catalog) -> Result<Vec<u8>, AllocE
     requires lists { AreLists catalog.now.schema catalog.now.lists }
     ensures { IfOk result (λ v. SpellsCatalog catalog.now v.items) }
 {
-    catalog.schema.keeps_rules();
+    write_catalog_of(
+        alloc,
+        catalog.next,
+        &catalog.schema,
+        catalog.lists.as_slice(),
+    )
+}
+
+/// The bytes of the catalog of this next number, this schema and these lists.
+pub fn write_catalog_of(
+    alloc: Global,
+    next: u32,
+    schema: &Schema,
+    lists: &[ListEntry],
+) -> Result<Vec<u8>, AllocError>
+    requires next { IsNext next }
+    requires lists { AreLists schema.now lists.now }
+    ensures { IfOk result (λ v. SpellsCatalog (record { next = next; schema = schema.now; lists = lists.now }) v.items) }
+{
+    schema.keeps_rules();
     let mut out = Vec::new(alloc);
-    write_head(catalog.next, catalog.schema.next_field(), &mut out)?;
-    write_classes(&catalog.schema, &mut out)?;
-    write_many(catalog.lists.as_slice(), &mut out)?;
+    write_head(next, schema.next_field(), &mut out)?;
+    write_classes(schema, &mut out)?;
+    write_many(lists, &mut out)?;
     Ok(out)
 }
 

@@ -1,6 +1,7 @@
 //! The list in chunks.
 
 ghost use Rattle.std.specs.Prelude.{◌≡◌, ◌^◌, ◌-◌, [], min, length, filter, map, IfOk, IfSome, IfNone, OnOk, OnErr};
+ghost use Rattle.std.specs.Bool.{OnTrue};
 ghost use Rattle.std.specs.List.{find as find_in, list_any, flat_map};
 ghost use Rattle.std.specs.Option.{option_map};
 ghost use Rattle.std.specs.Ordering.{is_eq};
@@ -17,7 +18,7 @@ use crate::joining::join_small;
 use crate::opening::{Written, pieces_of};
 use crate::piece::Piece;
 use crate::reading::{ChunkView, views};
-use crate::settling::{Keep, settle};
+use crate::settling::{Keep, are_settled, settle};
 use crate::widths::widest_of;
 use crate::writing::{are_numbered, marked_numbers, set_written};
 use crate::{adding, putting, removing};
@@ -88,6 +89,13 @@ impl<E: Entry> ChunkList<E> {
         ensures ascending { IsAscending E.order (joined self.now.chunks) }
     {
         views(alloc, self.pieces.as_slice())
+    }
+
+    /// Every list is in ascending order, and no two entries are equal.
+    pub fn keeps_order(&self)
+        ensures { IsAscending E.order (joined self.now.chunks) }
+    {
+        let _ = &self.pieces;
     }
 
     /// The entry at the place.
@@ -174,6 +182,14 @@ impl<E: Entry> ChunkList<E> {
             return Ok(());
         }
         join_small(alloc, &mut self.pieces)
+    }
+
+    /// Whether the list is as it was at the mark. Where a change was made and undone by another since, it may say
+    /// that it isn't. It takes no memory.
+    pub fn is_marked(&self) -> bool
+        ensures { OnTrue result (self.now.marked ≡ self.now.chunks) }
+    {
+        self.is_stored || are_settled(self.pieces.as_slice())
     }
 
     /// The list as it is becomes what `undo` gives back. It takes no memory.

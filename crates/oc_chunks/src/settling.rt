@@ -123,3 +123,27 @@ fn gap_for<E: Entry>(entries: &[E], entry: &E) -> usize
 {
     entries.partition_point(|other| other.compare(entry).is_lt())
 }
+
+/// Whether each piece is as it was at the mark, with nothing gone.
+pub(crate) fn are_settled<E: Drop>(pieces: &[Piece<E>]) -> bool
+    requires { Each IsSized pieces.now }
+    ensures { OnTrue result (Each IsSettled pieces.now) }
+{
+    for piece in pieces {
+        if !is_settled(piece) {
+            return false;
+        }
+    }
+    true
+}
+
+// Whether the piece is as it was at the mark, with nothing gone.
+fn is_settled<E: Drop>(piece: &Piece<E>) -> bool
+    requires { IsSized piece.now }
+    ensures { OnTrue result (IsSettled piece.now) }
+{
+    match &piece.was {
+        Was::Itself => piece.part.len > 0 && piece.part.len == piece.part.items.len(),
+        _ => false,
+    }
+}

@@ -3,3 +3,4 @@ pub mod FieldsJoined
 pub mod Ordered
 pub mod Ranged
 pub mod Slots
+pub mod AsThen

@@ -1,6 +1,7 @@
 //! The list of all objects.
 
 ghost use Rattle.std.specs.Prelude.{◌≡◌, ◌++◌, [], map, filter, IfOk, IfSome, IfNone, OnOk, OnErr};
+ghost use Rattle.std.specs.Bool.{OnTrue};
 ghost use Rattle.std.specs.List.{find, flat_map};
 ghost use Rattle.std.specs.Option.{option_map};
 ghost use Rattle.oc_model.specs.Maps.{is_in};
@@ -67,6 +68,13 @@ impl Extents {
         ensures ascending { IsAscending extent_cmp (joined self.now.chunks) }
     {
         self.list.chunks(alloc)
+    }
+
+    /// The objects always stand in the order of their numbers, each once.
+    pub fn keeps_order(&self)
+        ensures { IsAscending extent_cmp (joined self.now.chunks) }
+    {
+        self.list.keeps_order();
     }
 
     /// Puts the object in, in place of the one of its number if there is one.
@@ -146,6 +154,14 @@ impl Extents {
         ensures { IfOk result (λ v. v.items ≡ segments_of self.now.marked) }
     {
         self.list.marked_numbers(alloc)
+    }
+
+    /// Whether the list is as it was at the mark. Where a change was made and undone by another since, it
+    /// may say that it isn't. It takes no memory.
+    pub fn is_marked(&self) -> bool
+        ensures { OnTrue result (self.now.marked ≡ self.now.chunks) }
+    {
+        self.list.is_marked()
     }
 
     /// The list as it is becomes what `undo` gives back. It takes no memory.

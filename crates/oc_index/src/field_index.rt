@@ -1,6 +1,7 @@
 //! The list of a field.
 
 ghost use Rattle.std.specs.Prelude.{◌≡◌, ◌++◌, ◌^◌, ◌-◌, [], min, length, map, filter, IfOk, IfSome, IfNone, OnOk, OnErr};
+ghost use Rattle.std.specs.Bool.{OnTrue};
 ghost use Rattle.std.specs.List.{flat_map, list_any};
 ghost use Rattle.oc_chunks.specs.Ascending.{entered, Each, IsAscending};
 ghost use Rattle.oc_chunks.specs.Chunks.{joined, left, numbers as segments_of, IsCutFrom, IsSizedChunk};
@@ -161,6 +162,14 @@ impl FieldIndex {
         ensures { IfOk result (λ v. v.items ≡ segments_of self.now.marked) }
     {
         self.list.marked_numbers(alloc)
+    }
+
+    /// Whether the list is as it was at the mark. Where a change was made and undone by another since, it
+    /// may say that it isn't. It takes no memory.
+    pub fn is_marked(&self) -> bool
+        ensures { OnTrue result (self.now.marked ≡ self.now.chunks) }
+    {
+        self.list.is_marked()
     }
 
     /// The list as it is becomes what `undo` gives back. It takes no memory.

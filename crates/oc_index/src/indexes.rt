@@ -1,6 +1,7 @@
 //! The lists of a store.
 
 ghost use Rattle.std.specs.Prelude.{◌≡◌, ◌≤◌, ◌==◌, ◌++◌, ◌∷◌, [], ℕ, not, map, filter, true, false, IfOk, IsSome, IfSome, IfNone, OnOk, OnErr};
+ghost use Rattle.std.specs.Bool.{OnTrue};
 ghost use Rattle.std.specs.List.{find, flat_map, list_any};
 ghost use Rattle.std.specs.Option.{option_map};
 ghost use Rattle.oc_model.specs.Lists.{placed};
@@ -176,6 +177,16 @@ impl Indexes {
         remove_in(&mut self.fields, id, key, number)
     }
 
+    /// Whether the lists are as they were at the mark, and the indexes those that there were. Where a
+    /// change was made and undone by another since, it may say that they aren't. It takes no memory.
+    pub fn is_marked(&self) -> bool
+        ensures extents { OnTrue result (self.now.extents.marked ≡ self.now.extents.chunks) }
+        ensures fields { OnTrue result (self.now.marked ≡ self.now.fields) }
+        ensures each { OnTrue result (Each (λ f. f.1.marked ≡ f.1.chunks) self.now.fields) }
+    {
+        self.extents.is_marked() && are_marked(self.fields.as_slice())
+    }
+
     /// The lists as they are become what `undo` gives back. It takes no memory.
     pub fn mark(&mut self)
         ensures extents { (self.new.extents.chunks ≡ self.old.extents.chunks) × (self.new.extents.marked ≡ self.old.extents.chunks) }
@@ -337,6 +348,26 @@ fn end_one(field: &mut Field, id: u32)
     if field.id == id {
         field.is_here = false;
     }
+}
+
+/// Whether each index is as it was at the mark, and is there where it was.
+fn are_marked(fields: &[Field]) -> bool
+    ensures fields { OnTrue result (flat_map then_of fields.now ≡ flat_map now_of fields.now) }
+    ensures each { OnTrue result (Each (λ f. f.1.marked ≡ f.1.chunks) (flat_map now_of fields.now)) }
+{
+    for field in fields {
+        if !is_as_then(field) {
+            return false;
+        }
+    }
+    true
+}
+
+fn is_as_then(field: &Field) -> bool
+    ensures then { OnTrue result (then_of field.now ≡ now_of field.now) }
+    ensures chunks { OnTrue result (Each (λ f. f.1.marked ≡ f.1.chunks) (now_of field.now)) }
+{
+    field.is_here == field.was_there && field.index.is_marked()
 }
 
 fn mark_fields(fields: &mut Vec<Field>)

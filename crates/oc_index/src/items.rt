@@ -98,7 +98,7 @@ fn key_len(key: &Atom) -> usize
 }
 
 /// The same value.
-pub(crate) fn key_copy(alloc: Global, key: &Atom) -> Result<Atom, AllocError>
+pub fn key_copy(alloc: Global, key: &Atom) -> Result<Atom, AllocError>
     ensures { IfOk result (λ copy. copy ≡ key.now) }
 {
     Ok(match key {

@@ -13,7 +13,7 @@ mod ranges;
 pub use extents::Extents;
 pub use field_index::FieldIndex;
 pub use indexes::Indexes;
-pub use items::{ExtentItem, IndexItem};
+pub use items::{ExtentItem, IndexItem, key_copy};
 pub use ranges::End;
 
 #[cfg(test)]

@@ -12,10 +12,10 @@ mod Candidates
 pub mod CatalogTold
 mod Conversions
 mod Decimals
-mod Fitting
+pub mod Fitting
 pub mod Fronts
 pub mod Inherited
-mod Lengths
+pub mod Lengths
 pub mod NewChild
 pub mod NewClass
 pub mod PastFields
@@ -25,5 +25,5 @@ mod Nodes
 mod StateWalks
 pub mod Told
 mod States
-mod Spellable
+pub mod Spellable
 mod Written

@@ -139,6 +139,8 @@ impl Pages {
     }
 
     /// The bytes in a block.
+    ///
+    /// With it comes that each page is counted as full: it has all of its 126 cells, the empty ones among them.
     pub fn unit(&self) -> u32
         ensures value { result ≡ self.now.unit }
         ensures full { All (λ p. length p.cells ≡ 126) self.now.pages }

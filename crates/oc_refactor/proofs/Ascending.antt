@@ -1,5 +1,5 @@
 -- Fields put by their ids: they ascend, and each is one of those that were put.
-use Rattle.std.proofs.Common.{◌≡◌, refl, sym, ap, ◌∙◌, subst, ℕ, ◌<◌, inl, inr, Bool, true, false, not, ◌&&◌, ◌||◌, nat_lt, List, [], ◌∷◌, map, fold, arith, nat_cmp, T}
+use Rattle.std.proofs.Common.{◌≡◌, ◌⊎◌, refl, sym, ap, ◌∙◌, subst, ℕ, ◌<◌, inl, inr, Bool, true, false, not, ◌&&◌, ◌||◌, nat_lt, List, [], ◌∷◌, map, fold, arith, nat_cmp, T}
 use Rattle.std.specs.declared.cmp.Ordering.TheVariants.{Less, Equal, Greater}
 use Rattle.std.specs.Ordering.{is_lt}
 use Rattle.std.specs.FinMap.Entries.{is_sorted, below_all, is_sorted-put, by_order}
@@ -12,7 +12,7 @@ use Rattle.oc_model.specs.Lists.{IsOneOf}
 use Rattle.oc_model.specs.Maps.{Map, with_at}
 use Rattle.oc_model.specs.SchemaRules.{are_apart, are_in_order}
 use Rattle.oc_model.specs.SchemaSteps.{by_id}
-use Rattle.oc_model.proofs.Elements.{from_map}
+use Rattle.oc_model.proofs.Elements.{from_map, to_map}
 use Rattle.oc_refactor.proofs.Apart.{apart_from}
 
 -- an entry for one of these fields, under its id
@@ -44,6 +44,32 @@ all_held all (f ∷ fs) m among h e k = all_held all fs (with_at m f.id f) (λ g
 all_sorted : (fs : List FieldDef) (m : Map FieldDef) → T (is_sorted nat_cmp m) → T (is_sorted nat_cmp (put_all m fs))
 all_sorted [] m h = h
 all_sorted (f ∷ fs) m h = all_sorted fs (with_at m f.id f) (is_sorted-put nat_cmp nat_cmp_total f.id f m h)
+
+-- ---- each id that is put is a key
+
+abbrev keys_in : Map FieldDef → List ℕ
+keys_in m = map (λ (e : ℕ × FieldDef). e.0) m
+
+put_key : (n : ℕ) (f : FieldDef) (m : Map FieldDef) → (n ≡ f.id) ⊎ IsOneOf n (keys_in m) → IsOneOf n (keys_in (with_at m f.id f))
+put_key n f [] h = elim h as (λ _. IsOneOf n (keys_in (with_at [] f.id f))) [ inl q ↦ inl q | inr i ↦ absurd i ]
+put_key n f (x ∷ m) h =
+    (elim (nat_cmp f.id x.0) as (λ r. nat_cmp f.id x.0 ≡ r → IsOneOf n (keys_in (by_order r ((f.id, f) ∷ x ∷ m) ((x.0, f) ∷ m) (x ∷ with_at m f.id f)))) [
+      | Less ↦ λ r. h
+      | Equal ↦ λ r. elim h as (λ _. IsOneOf n (keys_in ((x.0, f) ∷ m))) [ inl q ↦ inl (q ∙ sym (equal_ids f.id x.0 r)) | inr i ↦ i ]
+      | Greater ↦ λ r. elim h as (λ _. IsOneOf n (keys_in (x ∷ with_at m f.id f))) [
+        | inl q ↦ inr (put_key n f m (inl q))
+        | inr i ↦ (elim i as (λ _. IsOneOf n (keys_in (x ∷ with_at m f.id f))) [ inl q ↦ inl q | inr j ↦ inr (put_key n f m (inr j)) ])
+      ]
+    ]) refl
+
+all_keys : (n : ℕ) (fs : List FieldDef) (m : Map FieldDef) → IsOneOf n (map (λ (f : FieldDef). f.id) fs) ⊎ IsOneOf n (keys_in m) → IsOneOf n (keys_in (put_all m fs))
+all_keys n [] m h = elim h as (λ _. IsOneOf n (keys_in m)) [ inl i ↦ absurd i | inr j ↦ j ]
+all_keys n (f ∷ fs) m h =
+    all_keys n fs (with_at m f.id f)
+    (elim h as (λ _. IsOneOf n (map (λ (f : FieldDef). f.id) fs) ⊎ IsOneOf n (keys_in (with_at m f.id f))) [
+      | inl i ↦ (elim i as (λ _. IsOneOf n (map (λ (f : FieldDef). f.id) fs) ⊎ IsOneOf n (keys_in (with_at m f.id f))) [ inl q ↦ inr (put_key n f m (inl q)) | inr k ↦ inl k ])
+      | inr j ↦ inr (put_key n f m (inr j))
+    ])
 
 -- ---- a sorted map's fields
 
@@ -104,6 +130,13 @@ module _ (fs : List FieldDef) where
 
   pub by_id_from : (f : FieldDef) → IsOneOf f (by_id fs) → IsOneOf f fs
   by_id_from f h = let r = from_map (λ (e : ℕ × FieldDef). e.1) f (put_all [] fs) h in subst (λ g. IsOneOf g fs) (sym r.2) (held r.0 r.1).1
+
+  -- each of them has one of its id there, which is one of them too
+  pub by_id_has : (f : FieldDef) → IsOneOf f fs → (g : FieldDef) × IsOneOf g (by_id fs) × IsOneOf g fs × (g.id ≡ f.id)
+  by_id_has f i =
+      let r = from_map (λ (e : ℕ × FieldDef). e.0) f.id (put_all [] fs) (all_keys f.id fs [] (inl (to_map (λ (g : FieldDef). g.id) f fs i))) in
+      let h = held r.0 r.1 in
+      (r.0.1, to_map (λ (e : ℕ × FieldDef). e.1) r.0 (put_all [] fs) r.1, h.1, sym h.0 ∙ sym r.2)
 
   pub by_id_apart : are_apart (map (λ (f : FieldDef). f.id) (by_id fs)) ≡ true
   by_id_apart = ap are_apart (ids_are_keys fs (put_all [] fs) held) ∙ keys_apart (put_all [] fs) (all_sorted fs [] tt)

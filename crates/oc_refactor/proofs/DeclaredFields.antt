@@ -69,6 +69,7 @@ pub record IsThere (own : List FieldDef) (d : Decl) (f : FieldDef) : Type 0 wher
   pub called : same from.name d.name ≡ true
   pub id : f.id ≡ from.id
   pub name : f.name ≡ from.name
+  pub kind : f.kind ≡ from.kind
   pub current : f.current ≡ true
   pub keeps : (next : ℕ) → field_keeps next from ≡ true → field_keeps next f ≡ true
 
@@ -89,14 +90,14 @@ kept_is_there own d g h =
     let r = found_in (λ f. f.current && same f.name d.name && same_kind f.kind d.kind) g own h in
     let p = and_parts (g.current && same g.name d.name) (same_kind g.kind d.kind) r.1 in
     let q = and_parts g.current (same g.name d.name) p.0 in
-    record { from = g; among = r.0; called = q.1; id = refl; name = refl; current = q.0; keeps = λ next k. k }
+    record { from = g; among = r.0; called = q.1; id = refl; name = refl; kind = refl; current = q.0; keeps = λ next k. k }
 
 past_is_there : (own : List FieldDef) (d : Decl) (g : FieldDef) → past_field own d.name d.kind ≡ Some g → IsThere own d (made_current g)
 past_is_there own d g h =
     let r = from_filter (λ (f : FieldDef). not f.current && same f.name d.name && same_kind f.kind d.kind) g own (latest_is_one (past_fields own d.name d.kind) g h) in
     let p = and_parts (not g.current && same g.name d.name) (same_kind g.kind d.kind) r.1 in
     let q = and_parts (not g.current) (same g.name d.name) p.0 in
-    record { from = g; among = r.0; called = q.1; id = refl; name = refl; current = refl; keeps = λ next k. plain_keeps next g (made_current g) refl refl refl k }
+    record { from = g; among = r.0; called = q.1; id = refl; name = refl; kind = refl; current = refl; keeps = λ next k. plain_keeps next g (made_current g) refl refl refl k }
 
 pub is_there : (own : List FieldDef) (d : Decl) (f : FieldDef) → field_for own d ≡ Some f → IsThere own d f
 is_there own d f h =
@@ -171,6 +172,26 @@ module _ (own : List FieldDef) where
         | inl e ↦ one_placed d ds id n (field_for own d) (is_there own d) e
         | inr i ↦ (elim (stated_from (id_after (field_for own d) id) n ds i) as (λ _. IsKept (d ∷ ds) n ⊎ (id ≤ n)) [
           | inl k ↦ inl (record { from = k.from; by = k.by; among = k.among; stated = inr k.stated; called = k.called; id = k.id })
+          | inr le ↦ let up = id_rises (field_for own d) id in inr (omega (arith, le, up))
+        ])
+      ]
+
+  -- one that was there has this id and this kind
+  abbrev pub WasOfKind : FieldDef → Type 0
+  WasOfKind f = (from : FieldDef) × IsOneOf from own × (f.id ≡ from.id) × (f.kind ≡ from.kind)
+
+  placed_of_kind : (d : Decl) (id : ℕ) (o : Option FieldDef) → ((f : FieldDef) → o ≡ Some f → IsThere own d f) → WasOfKind (placed o id d) ⊎ (id ≤ (placed o id d).id)
+  placed_of_kind d id None h = inr (omega arith)
+  placed_of_kind d id (Some f) h = let t = h f refl in inl (t.from, t.among, t.id, t.kind)
+
+  -- a stated field was there under its id and with its kind, or has a new id
+  pub stated_of_kind : (id : ℕ) (f : FieldDef) (ds : List Decl) → IsOneOf f (stated_fields own id ds) → WasOfKind f ⊎ (id ≤ f.id)
+  stated_of_kind id f [] h = absurd h
+  stated_of_kind id f (d ∷ ds) h =
+      elim h as (λ _. WasOfKind f ⊎ (id ≤ f.id)) [
+        | inl e ↦ subst (λ x. WasOfKind x ⊎ (id ≤ x.id)) (sym e) (placed_of_kind d id (field_for own d) (is_there own d))
+        | inr i ↦ (elim (stated_of_kind (id_after (field_for own d) id) f ds i) as (λ _. WasOfKind f ⊎ (id ≤ f.id)) [
+          | inl k ↦ inl k
           | inr le ↦ let up = id_rises (field_for own d) id in inr (omega (arith, le, up))
         ])
       ]

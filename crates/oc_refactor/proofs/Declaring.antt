@@ -18,7 +18,7 @@ use Rattle.oc_refactor.proofs.OneClass.{changed}
 
 -- ---- a class that is there
 
-with_declared_is : (s : Schema) (c : ℕ) (d : ClassDef) (ds : List Decl) → class_at s c ≡ Some d → with_declared s c ds ≡ schema_of (slice_set s.classes (c - 1) (redeclared s d ds)) (next_after s d ds)
+pub with_declared_is : (s : Schema) (c : ℕ) (d : ClassDef) (ds : List Decl) → class_at s c ≡ Some d → with_declared s c ds ≡ schema_of (slice_set s.classes (c - 1) (redeclared s d ds)) (next_after s d ds)
 with_declared_is s c d ds h =
     (λ i. record {
       classes = with_class_at s c (λ (b : ClassDef). record b { fields = declared_fields (stored_fields (h i)) s.next_field ds });
@@ -35,7 +35,7 @@ module _ (s : Schema) (ds : List Decl) (rules : keeps_rules s ≡ true) (proper 
       let e : suc k - 1 ≡ k = omega arith in
       ap is_within_limits (with_declared_is s (suc k) d ds h ∙ ap (λ j. schema_of (slice_set s.classes j (redeclared s d ds)) (next_after s d ds)) e) ∙ limits_asked s k d ds rules h proper f.0 (not-true _ f.1)
 
-  rules_kept_by : (c : ℕ) (d : ClassDef) → class_at s c ≡ Some d → names_are_free s c ds ≡ true → is_within_limits (with_declared s c ds) ≡ true
+  pub rules_kept_by : (c : ℕ) (d : ClassDef) → class_at s c ≡ Some d → names_are_free s c ds ≡ true → is_within_limits (with_declared s c ds) ≡ true
       → keeps_rules (schema_of (slice_set s.classes (c - 1) (redeclared s d ds)) (next_after s d ds)) ≡ true
   rules_kept_by zero d h free within = absurd (cc)
   rules_kept_by (suc k) d h free within =

@@ -82,19 +82,18 @@ no_arrays on c i a n x h k l =
     let q = and_parts _ _ r.0 in
     and_from _ _ (and_from _ _ q.0 (ap (λ b. b || not on) k)) (ap not h)
 
-module _ (s : Schema) (c : ℕ) (d : ClassDef) (name : Text) (f : FieldDef) (on : Bool)
-    (rules : keeps_rules s ≡ true) (few : s.next_field ≤ 4294967295)
-    (h : class_at s c ≡ Some d) (k : find (is_called name) (current d.fields) ≡ Some f) (kind : (on && is_array f.kind) ≡ false) where
+-- a current field of the schema, whichever class declares it
+module _ (s : Schema) (f : FieldDef) (on : Bool) (rules : keeps_rules s ≡ true) (few : s.next_field ≤ 4294967295)
+    (one : IsOneOf f (all_fields s)) (now : f.current ≡ true) (kind : (on && is_array f.kind) ≡ false) where
   abbrev change : FieldDef → FieldDef
   change g = record g { indexed = on }
 
   good : (g : FieldDef) → IsOneOf g (all_fields s) → field_keeps s.next_field g ≡ true → field_keeps s.next_field (at_id f.id change g) ≡ true
   good g i l =
-      let r = found_in_all s c d name f h k in
       (elim (g.id == f.id) as (λ b. (g.id == f.id) ≡ b → field_keeps s.next_field (cond b (change g) g) ≡ true) [
         | true ↦ λ e.
-            let q : f ≡ g = apart_same f g (all_fields s) (rules_kept s rules).ids r.2 i (sym (eqb-true g.id f.id e)) in
-            no_arrays on g.current g.indexed (is_array g.kind) (is_name g.name) (nat_le 1 g.id && nat_lt g.id s.next_field) (ap (λ (x : FieldDef). on && is_array x.kind) (sym q) ∙ kind) (ap (λ (x : FieldDef). x.current) (sym q) ∙ r.1) l
+            let q : f ≡ g = apart_same f g (all_fields s) (rules_kept s rules).ids one i (sym (eqb-true g.id f.id e)) in
+            no_arrays on g.current g.indexed (is_array g.kind) (is_name g.name) (nat_le 1 g.id && nat_lt g.id s.next_field) (ap (λ (x : FieldDef). on && is_array x.kind) (sym q) ∙ kind) (ap (λ (x : FieldDef). x.current) (sym q) ∙ now) l
         | false ↦ λ e. l
       ]) refl
 
@@ -102,13 +101,19 @@ module _ (s : Schema) (c : ℕ) (d : ClassDef) (name : Text) (f : FieldDef) (on 
   names [] = refl
   names (g ∷ fs) = λ i. kept_at (λ (x : FieldDef). x.name) f.id change (λ x. refl) g i ∷ names fs i
 
-  keeps : keeps_rules (with_field s f.id change) ≡ true
-  keeps =
+  pub indexed_keeps : keeps_rules (with_field s f.id change) ≡ true
+  indexed_keeps =
       mapped_keeps (at_id f.id change) (kept_at (λ (x : FieldDef). x.id) f.id change (λ x. refl)) (kept_at (λ (x : FieldDef). x.current) f.id change (λ x. refl)) s few rules good
       (λ n l. ap are_distinct (names (fields_of s n)) ∙ l)
 
-  changes : with_field s f.id change ≡ schema_of (slice_set s.classes (c - 1) (mapped (indexed_at f.id on) d)) s.next_field
-  changes = field_changed s c f.id change d rules h (to_map (λ (g : FieldDef). g.id) f d.fields (found_in_all s c d name f h k).0)
+module _ (s : Schema) (c : ℕ) (d : ClassDef) (name : Text) (f : FieldDef) (on : Bool)
+    (rules : keeps_rules s ≡ true) (few : s.next_field ≤ 4294967295)
+    (h : class_at s c ≡ Some d) (k : find (is_called name) (current d.fields) ≡ Some f) (kind : (on && is_array f.kind) ≡ false) where
+  keeps : keeps_rules (with_field s f.id (λ g. record g { indexed = on })) ≡ true
+  keeps = let r = found_in_all s c d name f h k in indexed_keeps s f on rules few r.2 r.1 kind
+
+  changes : with_field s f.id (λ g. record g { indexed = on }) ≡ schema_of (slice_set s.classes (c - 1) (mapped (indexed_at f.id on) d)) s.next_field
+  changes = field_changed s c f.id (λ g. record g { indexed = on }) d rules h (to_map (λ (g : FieldDef). g.id) f d.fields (found_in_all s c d name f h k).0)
 
   pub index_keeps : keeps_rules (schema_of (slice_set s.classes (c - 1) (mapped (indexed_at f.id on) d)) s.next_field) ≡ true
   index_keeps = ap keeps_rules (sym changes) ∙ keeps

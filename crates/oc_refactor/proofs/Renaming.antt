@@ -160,7 +160,7 @@ module _ (s : Schema) (i : ℕ) (d : ClassDef) (to : Text) (h : slice_get s.clas
       parted (slice_set s.classes i (renamed d to)) s.next_field few
       ∙ (λ j. own_rules_kept named p2.0 j && (lines_kept ∙ p2.1) j && names_kept 1 s.classes i d to free p1.1 j)
 
-nothing : {X : Type 0} (o : Option X) → is_some o ≡ false → o ≡ None
+pub nothing : {X : Type 0} (o : Option X) → is_some o ≡ false → o ≡ None
 nothing None h = refl
 nothing (Some x) h = absurd (true≢false h)
 

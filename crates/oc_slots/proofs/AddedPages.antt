@@ -34,6 +34,7 @@ use Rattle.oc_slots.specs.Pointings.{set_all, write_of, writes_of, pointed_place
 use Rattle.oc_slots.specs.Turnovers.{numbers_in, places_of, with_added, root_writes, AreNew, AreMissing}
 use Rattle.oc_slots.proofs.MissingPages.{missing_front, page_skips}
 use Rattle.oc_slots.proofs.PointedPages.{chain_all, distinct_all, pointers_all, things_all}
+use Rattle.oc_slots.proofs.FormParts.{all_clear}
 
 -- ---- lists
 
@@ -348,10 +349,6 @@ writes_within unit old (p ∷ ps) stand =
     one : (t : Option ℕ) → target_of unit old p.id.space p.id.number ≡ t → All (λ (w : CellWrite). IsInPage unit old w.target) (option_to_list (option_map (λ target. record { target = target; cell = p.cell }) t))
     one None e = All-nil (λ (w : CellWrite). IsInPage unit old w.target)
     one (Some target) e = All-cons (λ (w : CellWrite). IsInPage unit old w.target) (record { target = target; cell = p.cell }) [] (target_in unit old p.id.space p.id.number target e) (All-nil (λ (w : CellWrite). IsInPage unit old w.target))
-
-all_clear : (at n : ℕ) (ws : List CellWrite) → All (λ w. (w.target + 8 ≤ at) ⊎ (at + n ≤ w.target)) ws → AllClear at n ws
-all_clear at n [] all = tt
-all_clear at n (w ∷ ws) all = (all 0 w (omega arith), all_clear at n ws (All-tail (λ (x : CellWrite). (x.target + 8 ≤ at) ⊎ (at + n ≤ x.target)) w ws all))
 
 all_within : (len : ℕ) (ws : List CellWrite) → All (λ w. w.target + 8 ≤ len) ws → AllWithin len ws
 all_within len [] all = tt

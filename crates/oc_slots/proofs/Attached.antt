@@ -10,9 +10,10 @@ use Rattle.oc_layout.specs.declared.cells.Header.{Header}
 use Rattle.oc_log.specs.Log.{put_cells}
 use Rattle.oc_pages.specs.declared.page.Page.{Page}
 use Rattle.oc_slots.specs.Attaching.{IsFound, IsJudged, with_cells, with_closed, MayBeMade, MayLeave, StaysShort, StillGives}
-use Rattle.oc_slots.specs.Forms.{HasForm, Gives}
+use Rattle.oc_slots.specs.Forms.{HasForm, Gives, GivesFrom}
 use Rattle.oc_slots.specs.Maps.{SlotMap}
 use Rattle.oc_slots.specs.Stores.{Slots}
+use Rattle.oc_slots.proofs.FormParts.{settled_kept}
 use Rattle.oc_slots.proofs.OneMap.{one_form}
 use Rattle.oc_slots.proofs.Recovering.{form_gives}
 
@@ -53,7 +54,7 @@ module _ (anew : Bool) (d : Disk) where
   as_it_is : (image said : List ℕ) → image ≡ d.bytes → said ≡ d.said → MayLeave anew d image said
   as_it_is image said same told = record {
     told = told;
-    gives = λ m gives. subst (λ b. Gives b m) (sym same) gives;
+    gives = λ first m from. subst (λ b. GivesFrom first b m) (sym same) from;
     short = λ made. subst (λ b. length b ≤ 128) (sym same) (made_short anew d.bytes made);
     stays = λ no not_made. same;
   }
@@ -67,7 +68,7 @@ module _ (anew : Bool) (d : Disk) where
   short_leaves : (e : Disk) → Looks d e → MayBeMade anew d.bytes → ((m : SlotMap) → Gives d.bytes m → ⊥) → (image said : List ℕ) → StaysShort e image said → MayLeave anew d image said
   short_leaves e looks made none image said s = record {
     told = s.told ∙ looks.said;
-    gives = λ m gives. absurd (none m gives);
+    gives = λ first m from. absurd (none m from.gives);
     short = λ may. s.short;
     stays = λ no not_made. absurd (not_made made);
   }
@@ -80,7 +81,7 @@ module _ (anew : Bool) (d : Disk) where
       let map = form_gives h ws s.pages d.bytes judged.form in
       then_runs d e f (IsImage (now d)) (StillGives e) (MayLeave anew d) looks.moments run (seen is) (λ image said r. record {
         told = r.told ∙ looks.said;
-        gives = λ m gives. r.gives m (subst (λ b. Gives b m) (sym looks.bytes) gives);
+        gives = λ first m from. r.gives first m (subst (λ b. GivesFrom first b m) (sym looks.bytes) from);
         short = λ made. absurd (none_made anew d.bytes _ map made);
         stays = λ no not_made. absurd (no _ map);
       })
@@ -97,7 +98,7 @@ module _ (anew : Bool) (old d : Disk) (is : d ≡ synced_now old) where
   moved : (image said : List ℕ) → MayLeave anew d image said → MayLeave anew old image said
   moved image said m = record {
     told = m.told ∙ ap (λ (x : Disk). x.said) is;
-    gives = λ n gives. m.gives n (subst (λ b. Gives b n) (sym bytes_kept) gives);
+    gives = λ first n from. m.gives first n (subst (λ b. GivesFrom first b n) (sym bytes_kept) from);
     short = λ made. m.short (subst (MayBeMade anew) (sym bytes_kept) made);
     stays = λ no not_made. m.stays (λ n gives. no n (subst (λ b. Gives b n) bytes_kept gives)) (λ made. not_made (subst (MayBeMade anew) bytes_kept made)) ∙ bytes_kept;
   }
@@ -114,7 +115,7 @@ module _ (anew : Bool) (old d : Disk) (is : d ≡ synced_now old) where
       then_runs old d f (MayLeave anew old) (MayLeave anew d) (MayLeave anew old) (subst (λ x. LeavesOnly old x (MayLeave anew old)) (sym is) first_leaves)
       (then_runs d e f (MayLeave anew d) (MayLeave anew e) (MayLeave anew d) (looked_leaves anew d e is_synced looks) run (λ image said m. m) (λ image said m. record {
         told = m.told ∙ looks.said;
-        gives = λ n gives. m.gives n (subst (λ b. Gives b n) (sym looks.bytes) gives);
+        gives = λ first n from. m.gives first n (subst (λ b. GivesFrom first b n) (sym looks.bytes) from);
         short = λ made. m.short (subst (MayBeMade anew) (sym looks.bytes) made);
         stays = λ no not_made. m.stays (λ n gives. no n (subst (λ b. Gives b n) looks.bytes gives)) (λ made. not_made (subst (MayBeMade anew) looks.bytes made)) ∙ looks.bytes;
       }))
@@ -159,6 +160,10 @@ module _ (g h : Header) (vs ws : List CellWrite) (pages : List Page) (s : Slots)
   found_open gate now bytes =
       let some : (h.gate == 1) ≡ true = (λ i. (sym same_header i).gate == 1) ∙ grind (arith, nat_tests, gate) in
       found_with now (bytes ∙ ap (λ l. over 64 (0 ∷ []) (put_cells l b)) same_writes ∙ sym (ap (λ t. if t then over 64 (0 ∷ []) (put_cells ws b) else b) some))
+
+-- the store has the first number of the file's header
+pub found_first : (first : ℕ) (m : SlotMap) (s : Slots) (old new : List ℕ) (from : GivesFrom first old m) → IsFound (from.gives).header (from.gives).writes (from.gives).pages s old new → (s.header).first ≡ first
+found_first first m s old new from found = ap (λ (h : Header). h.first) (found.header ∙ settled_kept (from.gives).header (from.gives).writes) ∙ from.is_first
 
 -- what was said stays
 pub said_kept : (anew : Bool) (old new : Disk) → IsDisk new → LeavesOnly old new (MayLeave anew old) → new.said ≡ old.said

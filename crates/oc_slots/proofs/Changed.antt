@@ -58,6 +58,9 @@ module _ (h : Header) (b image : List ℕ) (begins : Begins h b) (long : 128 ≤
   between : g ≡ middle
   between i = record { limit = limit i; first = first i; root = g.root; log = g.log; gate = g.gate; block = block i; block_limit = block_limit i; block_root = g.block_root; spare = spare i; form = form i }
 
+  pub first_number_same : g.first ≡ h.first
+  first_number_same = first ∙ ap (λ (x : Header). x.first) (sym begins.fields)
+
   pub unit_same : unit_of g ≡ unit_of h
   unit_same = ap unit_of between ∙ ap unit_of (sym begins.fields)
 

@@ -1,6 +1,6 @@
 -- A plan that is carried out in memory can be written, and what the store is then.
 use Rattle.std.proofs.Common.{nat_eq, ◌≡◌, ◌∙◌, inl, inr, ℕ, suc, ◌+◌, ◌*◌, ◌<◌, ◌≤◌, max, Bool, true, false, cond, List, [], ◌∷◌, ◌++◌, length, map, get_or, Option, Some, None, sym, ap, subst, subst₂, refl, arith}
-use Rattle.std.specs.Prelude.{All, AllPairs, IsSome, ◌||◌, nat_le, nat_lt, sum_by}
+use Rattle.std.specs.Prelude.{All, AllPairs, IsSome, ◌||◌, is_some, nat_le, nat_lt, sum_by}
 use Rattle.std.specs.Map.{lookup}
 use Rattle.std.specs.Option.{option_map_or}
 use Rattle.std.proofs.lemmas.Bool.Decides.{nat_tests}
@@ -26,15 +26,14 @@ use Rattle.oc_slots.specs.declared.placed.Slot.{Slot}
 use Rattle.oc_slots.specs.declared.slot.SlotChange.{SlotChange}
 use Rattle.oc_slots.specs.declared.slot.SlotId.{SlotId}
 use Rattle.oc_slots.specs.Attaching.{HasThings}
+use Rattle.oc_slots.specs.Cached.{Cached}
 use Rattle.oc_slots.specs.Commits.{IsCommit, BeforeOrAfter}
 use Rattle.oc_slots.specs.Forms.{LiesIn, IsTarget, header_cell, log_things}
 use Rattle.oc_slots.specs.Held.{Holds, map_of}
-use Rattle.oc_slots.specs.Maps.{Same, bytes_at, content, changed, is_same}
+use Rattle.oc_slots.specs.Maps.{Same, bytes_at, content, changed, has_after}
 use Rattle.oc_slots.specs.Slots.{changes_of, places_in, slots_of, cells_of}
-use Rattle.oc_slots.specs.Stores.{IsWhole, Agrees, AreChanges, changes_in, fresh_of, session, committed}
-use Rattle.oc_slots.specs.Noting.{place_in}
-use Rattle.oc_slots.specs.declared.turnover.Pointing.{Pointing}
-use Rattle.oc_slots.specs.Pointings.{is_pointed}
+use Rattle.oc_slots.specs.Stores.{IsWhole, IsSettled, Agrees, AreChanges, changes_in, fresh_of, session, committed, parts}
+use Rattle.oc_slots.specs.Noting.{place_in, placed_place}
 use Rattle.oc_slots.specs.Pieces.{Piece, AreJoined, Fit, over_all, pieces_of, end_of, end_after, last_after}
 use Rattle.oc_slots.specs.Planning.{IsPlan, IsReady, IsWritable, AreFit, places, pages_after, end_over, slot_pieces, page_pieces, written, OldOrNew, moves}
 use Rattle.oc_slots.specs.Turnovers.{places_of, page_slots, with_added, bytes_of}
@@ -42,32 +41,25 @@ use Rattle.oc_slots.specs.Writing.{IsFree, AreFree}
 use Rattle.oc_slots.proofs.AddedPages.{StandsWhole, writes_len, things_new, targets_new, pointers_then}
 use Rattle.oc_slots.proofs.Apart.{ends_before}
 use Rattle.oc_slots.proofs.CommitMade.{commit_made, fits_writes}
-use Rattle.oc_slots.proofs.InstallEnds.{moved_all}
+use Rattle.oc_slots.proofs.MovedThings.{moved_all}
 use Rattle.oc_slots.proofs.InstallParts as parts
 use Rattle.oc_slots.proofs.FormParts.{suits, suits_within}
 use Rattle.oc_slots.proofs.InOrder.{order_split, order_blocks, over_append, after_over}
 use Rattle.oc_slots.proofs.JoinedMore.{joined_more, over_append as over_both, fit_split}
-use Rattle.oc_slots.proofs.IdleCommits.{moved_moves}
-use Rattle.oc_slots.proofs.Noted.{left_of, right_of, owners_append}
+use Rattle.oc_slots.proofs.KeptPlaces.{session_is}
+use Rattle.oc_slots.proofs.PlanMoves.{moved_is, one_moves, there_same}
+use Rattle.oc_slots.proofs.Noted.{owners_append}
 use Rattle.oc_slots.proofs.PagesThere.{pages_there, slots_are, places_are}
 use Rattle.oc_slots.proofs.PieceBytes.{pieces_fit, pieces_length, end_grows}
-use Rattle.oc_slots.proofs.RunWrites.{gives_same}
+use Rattle.oc_slots.proofs.HeldGives.{gives_same}
 use Rattle.oc_slots.proofs.SessionMap.{changed_there}
 use Rattle.oc_slots.proofs.SlotsApart.{pointer_kept}
 use Rattle.oc_slots.proofs.SessionBytes as session_bytes
 use Rattle.oc_slots.proofs.SessionChange.{some_placed, cells_some, ends_in}
 use Rattle.oc_slots.proofs.SessionSteps.{seen}
 use Rattle.oc_slots.proofs.PagesApart.{pages_apart}
-use Rattle.oc_slots.proofs.Things.{tail_of}
+use Rattle.oc_slots.proofs.Things.{tail_of, left_of, right_of}
 use Rattle.oc_slots.proofs.Tilings.{each_once}
-
-left_all : {A : Type 0} (P : A → Type 0) (xs ys : List A) → All P (xs ++ ys) → All P xs
-left_all P [] ys all = λ k d lt. absurd (omega (arith, lt))
-left_all P (x ∷ xs) ys all = All-cons P x xs (all 0 x (omega arith)) (left_all P xs ys (λ k d lt. all (suc k) d (omega (arith, lt))))
-
-right_all : {A : Type 0} (P : A → Type 0) (xs ys : List A) → All P (xs ++ ys) → All P ys
-right_all P [] ys all = all
-right_all P (x ∷ xs) ys all = right_all P xs ys (λ k d lt. all (suc k) d (omega (arith, lt)))
 
 -- the thing has no byte or doesn't lie in a file of this length
 abbrev is_out : ℕ → ℕ → Cell → Bool
@@ -108,6 +100,10 @@ module _ (h : Header) (pages : Paged) (o : Overlay) (room r : Space) (fresh len 
 
   abbrev base : List Cell
   base = (header_cell ∷ things_of pages.pages) ++ fresh_of o
+
+  -- the new pages name a slot where it was placed, and else where the session had it
+  named_then : (id : SlotId) → pointer_of (pages_after plan pages.pages) id.space id.number ≡ placed_place plan.placed.items id (place_in pages.pages o id)
+  named_then id = pointers_then pages.pages plan.added.items plan.pointings.items f.missing f.held f.turnover.distinct full id ∙ f.turnover.places id
 
   unit : r.unit ≡ unit_of h
   unit = parts.unit h pages o room r fresh len last plan p whole is f full
@@ -318,8 +314,8 @@ module _ (h : Header) (pages : Paged) (o : Overlay) (room r : Space) (fresh len 
           let page = get_or plan.added.items i a in
           let slot : NewPage → Slot = λ x. record { cell = record { at = x.at; len = 1024 }; bytes = bytes_of new x } in
           let there : i < length (page_slots new plan.added.items) = omega (arith, lt, length-map plan.added.items slot) in
-          let bytes = subst (λ s. bytes_at (unit_of h) e.bytes s.cell ≡ s.bytes) (get_or-map slot plan.added.items i a (slot a) lt) (right_all (λ s. bytes_at (unit_of h) e.bytes s.cell ≡ s.bytes) slots (page_slots new plan.added.items) have i (slot a) there) in
-          let lies = subst (λ s. LiesIn (unit_of h) (length e.bytes) s.cell) (get_or-map slot plan.added.items i a (slot a) lt) (right_all (λ s. LiesIn (unit_of h) (length e.bytes) s.cell) slots (page_slots new plan.added.items) written_lie i (slot a) there) in
+          let bytes = subst (λ s. bytes_at (unit_of h) e.bytes s.cell ≡ s.bytes) (get_or-map slot plan.added.items i a (slot a) lt) (right_of (λ s. bytes_at (unit_of h) e.bytes s.cell ≡ s.bytes) slots (page_slots new plan.added.items) have i (slot a) there) in
+          let lies = subst (λ s. LiesIn (unit_of h) (length e.bytes) s.cell) (get_or-map slot plan.added.items i a (slot a) lt) (right_of (λ s. LiesIn (unit_of h) (length e.bytes) s.cell) slots (page_slots new plan.added.items) written_lie i (slot a) there) in
           go page (page_of new page.space page.index) refl (pages_there pages.pages plan.added.items plan.pointings.items f.missing i a lt) bytes lies.inside (fits i a lt)
         where
           go : (b : NewPage) (q : Option Page) → page_of new b.space b.index ≡ q → IsSome (page_of new b.space b.index) → bytes_at (unit_of h) e.bytes (record { at = b.at; len = 1024 }) ≡ bytes_of new b → b.at * unit_of h + 1024 ≤ length e.bytes
@@ -406,17 +402,10 @@ module _ (h : Header) (pages : Paged) (o : Overlay) (room r : Space) (fresh len 
     map_written : Same (map_of h (pages_after plan pages.pages) (put_cells plan.draft.writes bytes)) (changed last (session (seen h pages o room len) d))
     map_written id =
         named_kept id
-        ∙ ap (content (unit_of h) bytes) (pointers_then pages.pages plan.added.items plan.pointings.items f.missing f.held f.turnover.distinct full id ∙ f.turnover.places id)
+        ∙ ap (content (unit_of h) bytes) (named_then id)
         ∙ changed_there (unit_of h) bytes (session (seen h pages o room len) d) plan.placed.items id (place_in pages.pages o id)
-        (left_all (λ s. bytes_at (unit_of h) bytes s.cell ≡ s.bytes) slots (page_slots new plan.added.items) (have after refl)) (kept after refl id ∙ old_session id)
+        (left_of (λ s. bytes_at (unit_of h) bytes s.cell ≡ s.bytes) slots (page_slots new plan.added.items) (have after refl)) (kept after refl id ∙ ap (content (unit_of h) d.bytes) (sym (session_is h pages o room len [] id)))
         ∙ ap (λ cs. changed cs (session (seen h pages o room len) d) id) f.are
-      where
-        old_session : (id : SlotId) → content (unit_of h) d.bytes (place_in pages.pages o id) ≡ session (seen h pages o room len) d id
-        old_session id = ap (λ cs. content (unit_of h) d.bytes (option_map_or (λ x. x) (lookup (nat_eq id.number) cs) (pointer_of pages.pages id.space id.number))) (old_space id.space)
-          where
-            old_space : (space : spaces.Space) → changes_of o space ≡ changes_in (seen h pages o room len) space
-            old_space Objects = refl
-            old_space System = refl
 
     -- a stop leaves the slots of the last commit, or those of the session with the last changes
     pub before_or_after : (image said : List ℕ) → OldOrNew h pages.pages (pages_after plan pages.pages) plan d image said → BeforeOrAfter (seen h pages o room len) last d image said
@@ -424,7 +413,7 @@ module _ (h : Header) (pages : Paged) (o : Overlay) (room r : Space) (fresh len 
       left.0,
       elim left.1 [
         | inl old ↦ inl old
-        | inr gives ↦ inr (gives_same image (changed last (session (seen h pages o room len) d)) (map_of h new (put_cells plan.draft.writes bytes)) (λ id. sym (map_written id)) gives)
+        | inr gives ↦ inr (gives_same h.first image (changed last (session (seen h pages o room len) d)) (map_of h new (put_cells plan.draft.writes bytes)) (λ id. sym (map_written id)) gives)
       ],
     )
 
@@ -473,13 +462,19 @@ module _ (h : Header) (pages : Paged) (o : Overlay) (room r : Space) (fresh len 
       let kept = parts.header_is h pages o room r fresh len last plan p whole is f full in
       kept ∙ (λ i. record h { root = plan.header.root; log = (sym kept i).log; gate = (sym kept i).gate; block_root = plan.header.block_root })
 
+  -- both sides are the session with the changes
+  pub settled_then : (q : Paged) (none : Overlay) (t : Space) (was es : Cached) → q.pages ≡ pages_after plan pages.pages → ((space : spaces.Space) → changes_of none space ≡ [])
+      → IsSettled last (parts h pages o room len was) (parts plan.header q none t plan.end es)
+  settled_then q none t was es is_after empty = record {
+    objects = empty Objects;
+    system = empty System;
+    there = λ id.
+        ap (λ l. is_some (pointer_of l id.space id.number)) is_after
+        ∙ ap is_some (named_then id)
+        ∙ there_same plan.placed.items id (place_in pages.pages o id)
+        ∙ (λ i. has_after (f.are i) id (is_some (sym (session_is h pages o room len was id) i)));
+  }
+
   -- a slot moved
   pub some_moved : (id : SlotId) × (moves pages.pages o last id ≡ true)
-  some_moved = first plan.pointings.items f.some (λ id. f.turnover.moved id ∙ moved_moves pages.pages o plan.placed.items id ∙ ap (λ cs. moves pages.pages o cs id) f.are)
-    where
-      first : (ps : List Pointing) → 1 ≤ length ps → ((id : SlotId) → is_pointed ps id ≡ moves pages.pages o last id) → (id : SlotId) × (moves pages.pages o last id ≡ true)
-      first [] some same = absurd (omega (arith, some))
-      first (x ∷ xs) some same = (x.id, sym (same x.id) ∙ here)
-        where
-          here : is_pointed (x ∷ xs) x.id ≡ true
-          here = let t : is_same x.id x.id ≡ true = grind (arith, nat_tests) in rw t refl
+  some_moved = one_moves plan.pointings.items (moves pages.pages o last) f.some (λ id. f.turnover.moved id ∙ moved_is pages.pages o o last plan.placed.items id f.are (λ space. refl))

@@ -37,10 +37,10 @@ use Rattle.oc_slots.proofs.CommitFacts.{named_kept, now_same, things_kept}
 use Rattle.oc_slots.proofs.Forgotten.{all_left, among_contained, exactly}
 use Rattle.oc_slots.proofs.InstallParts as installed
 use Rattle.oc_slots.proofs.KeptPlaces.{id_same, one_owner, place_there, session_is, with_kept, without_kept}
-use Rattle.oc_slots.proofs.Noted.{each_in, left_of, owners_append, right_of}
+use Rattle.oc_slots.proofs.Noted.{each_in, owners_append}
 use Rattle.oc_slots.proofs.SessionBytes.{noted_has}
 use Rattle.oc_slots.proofs.SessionSteps.{seen}
-use Rattle.oc_slots.proofs.Things.{tail_of}
+use Rattle.oc_slots.proofs.Things.{tail_of, left_of, right_of}
 use Rattle.oc_slots.proofs.Tilings.{each_once}
 
 clash : true ≡ false → ⊥

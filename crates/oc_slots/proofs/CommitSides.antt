@@ -1,5 +1,5 @@
 -- What a commit that changes nothing leaves, and how its lengths are told of a store.
-use Rattle.std.proofs.Common.{◌≡◌, ◌≢◌, ◌∙◌, ℕ, ◌≤◌, nat_eq, true, List, ◌++◌, sym, ap, subst, refl}
+use Rattle.std.proofs.Common.{◌≡◌, ◌≢◌, ◌∙◌, ℕ, ◌≤◌, nat_eq, true, List, [], ◌++◌, sym, ap, subst, refl}
 use Rattle.std.specs.Prelude.{All, ◌||◌, ◌&&◌, is_some}
 use Rattle.std.specs.List.{list_any}
 use Rattle.std.specs.Map.{lookup}
@@ -17,12 +17,12 @@ use Rattle.oc_slots.specs.declared.slot.SlotId.{SlotId}
 use Rattle.oc_slots.specs.Cached.{Cached}
 use Rattle.oc_slots.specs.Forms.{LiesIn}
 use Rattle.oc_slots.specs.Held.{Holds}
-use Rattle.oc_slots.specs.Maps.{content, changed, is_same}
+use Rattle.oc_slots.specs.Maps.{content, changed, has_after, is_same}
 use Rattle.oc_slots.specs.Slots.{changes_of, places_in}
-use Rattle.oc_slots.specs.Stores.{Agrees, IsWhole, changes_in, parts, session}
-use Rattle.oc_slots.specs.Noting.{place_in}
-use Rattle.oc_slots.specs.Planning.{AreLengths, has_after, moves, moves_in}
-use Rattle.oc_slots.proofs.IdleCommits.{idle_map}
+use Rattle.oc_slots.specs.Stores.{Agrees, IsWhole, parts, session, session_place}
+use Rattle.oc_slots.specs.Planning.{AreLengths, moves, moves_in}
+use Rattle.oc_slots.proofs.IdleCommits.{idle_map, idle_there}
+use Rattle.oc_slots.proofs.KeptPlaces.{changes_seen, session_is}
 use Rattle.oc_slots.proofs.SessionChange.{whole_same}
 use Rattle.oc_slots.proofs.SessionSteps.{seen}
 
@@ -71,15 +71,11 @@ agrees_again h pages p o q room r len es d same overlay agrees = record {
 }
 
 module _ (h : Header) (pages : Paged) (o : Overlay) (room : Space) (len : ℕ) where
-  in_space : (space : spaces.Space) → changes_in (seen h pages o room len) space ≡ changes_of o space
-  in_space Objects = refl
-  in_space System = refl
-
   -- a slot moves in the store that is seen
   pub moves_seen : (last : List SlotChange) (id : SlotId) → moves_in (seen h pages o room len) last id ≡ moves pages.pages o last id
   moves_seen last id i =
-      (list_any (λ c. is_same c.id id) last || is_some (lookup (nat_eq id.number) (in_space id.space i)))
-      && (has_after last id (is_some (option_map_or (λ x. x) (lookup (nat_eq id.number) (in_space id.space i)) (pointer_of pages.pages id.space id.number))) || is_some (pointer_of pages.pages id.space id.number))
+      (list_any (λ c. is_same c.id id) last || is_some (lookup (nat_eq id.number) (changes_seen h pages o room len [] id.space i)))
+      && (has_after last id (is_some (option_map_or (λ x. x) (lookup (nat_eq id.number) (changes_seen h pages o room len [] id.space i)) (pointer_of pages.pages id.space id.number))) || is_some (pointer_of pages.pages id.space id.number))
 
   pub lengths_seen : (last : List SlotChange) (lens : List ℕ) → AreLengths (is_wide h) pages.pages (moves pages.pages o last) last lens → AreLengths (is_wide h) pages.pages (moves_in (seen h pages o room len) last) last lens
   lengths_seen last lens l = record {
@@ -94,9 +90,10 @@ module _ (h : Header) (pages : Paged) (o : Overlay) (room : Space) (len : ℕ) w
     are = l.are;
   }
 
-  pub old_session : (d : Disk) (id : SlotId) → content (unit_of h) d.bytes (place_in pages.pages o id) ≡ session (seen h pages o room len) d id
-  old_session d id = ap (λ cs. content (unit_of h) d.bytes (option_map_or (λ x. x) (lookup (nat_eq id.number) cs) (pointer_of pages.pages id.space id.number))) (sym (in_space id.space))
-
   -- where a slot doesn't move, the last commit has it as the session with the last changes
   pub idle_map_seen : (last : List SlotChange) (d : Disk) (id : SlotId) → moves pages.pages o last id ≢ true → content (unit_of h) d.bytes (pointer_of pages.pages id.space id.number) ≡ changed last (session (seen h pages o room len) d) id
-  idle_map_seen last d id idle = idle_map (unit_of h) d.bytes pages.pages o last (session (seen h pages o room len) d) id (sym (old_session d id)) idle
+  idle_map_seen last d id idle = idle_map (unit_of h) d.bytes pages.pages o last (session (seen h pages o room len) d) id (ap (content (unit_of h) d.bytes) (session_is h pages o room len [] id)) idle
+
+  -- and the slot is there as it was
+  pub idle_there_seen : (last : List SlotChange) (id : SlotId) → moves pages.pages o last id ≢ true → is_some (pointer_of pages.pages id.space id.number) ≡ has_after last id (is_some (session_place (seen h pages o room len) id))
+  idle_there_seen last id idle = idle_there pages.pages o last id idle ∙ ap (λ p. has_after last id (is_some p)) (sym (session_is h pages o room len [] id))

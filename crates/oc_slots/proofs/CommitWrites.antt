@@ -1,6 +1,5 @@
 -- What the writes of a commit leave, one after another.
-use Rattle.std.proofs.Common.{◌≡◌, ◌∙◌, ◌⊎◌, inl, inr, ℕ, ◌+◌, ◌*◌, ◌<◌, ◌≤◌, max, List, [], ◌∷◌, ◌++◌, length, sym, ap, subst, refl}
-use Rattle.std.specs.Prelude.{All}
+use Rattle.std.proofs.Common.{◌≡◌, ◌∙◌, inl, inr, ℕ, ◌+◌, ◌*◌, max, List, [], ◌∷◌, length, sym, ap, subst}
 use Rattle.oc_layout.specs.declared.cells.Header.{Header}
 use Rattle.oc_layout.specs.Layout.{unit_of, is_wide, write_len}
 use Rattle.oc_host.specs.Disk.{Disk, IsDisk, IsSynced, LeavesOnly, over}
@@ -11,6 +10,7 @@ use Rattle.oc_log.specs.Stops.{NoneOrAll}
 use Rattle.oc_pages.specs.declared.page.Page.{Page}
 use Rattle.oc_slots.specs.declared.commit_plan.CommitPlan.{CommitPlan}
 use Rattle.oc_slots.specs.Commits.{IsCommit}
+use Rattle.oc_slots.specs.Forms.{GivesFrom}
 use Rattle.oc_slots.specs.Held.{Holds, map_of}
 use Rattle.oc_slots.specs.Maps.{Same}
 use Rattle.oc_slots.specs.Pieces.{over_all}
@@ -18,7 +18,7 @@ use Rattle.oc_slots.specs.Planning.{IsWritable, OldOrNew, AreFit, header_after, 
 use Rattle.oc_slots.specs.Writing.{Keeps, Before}
 use Rattle.oc_slots.proofs.Committing.{either_gives}
 use Rattle.oc_slots.proofs.Committed as after
-use Rattle.oc_slots.proofs.RunWrites.{gives_same}
+use Rattle.oc_slots.proofs.HeldGives.{gives_same}
 
 module _ (h : Header) (old new : List Page) (plan : CommitPlan) (len : plan.place.len ≡ 4 + write_len (is_wide h) * length plan.draft.writes) (d : Disk) (w : IsWritable h old new plan d) where
   -- while the slots are written
@@ -33,7 +33,7 @@ module _ (h : Header) (old new : List Page) (plan : CommitPlan) (len : plan.plac
     slots_size = ap length slots ∙ w.size
 
     still : (image said : List ℕ) → Before h old e image said → OldOrNew h old new plan d image said
-    still image said b = (b.0 ∙ keeps.said, inl (gives_same image (map_of h old d.bytes) (map_of h old e.bytes) (λ id. sym (keeps.same w.holds id)) b.1))
+    still image said b = (b.0 ∙ keeps.said, inl (gives_same h.first image (map_of h old d.bytes) (map_of h old e.bytes) (λ id. sym (keeps.same w.holds id)) b.1))
 
     -- while the pages are written
     pub pages_leave : (f : Disk) → LeavesOnly e f (Before h old e) → LeavesOnly d f (OldOrNew h old new plan d)
@@ -57,8 +57,8 @@ module _ (h : Header) (old new : List Page) (plan : CommitPlan) (len : plan.plac
           let gives = either_gives h old new f held_then plan.place plan.draft.writes commit image said r in (
             gives.0 ∙ kept.said ∙ keeps.said,
             elim gives.1 [
-              | inl before ↦ inl (gives_same image (map_of h old d.bytes) (map_of h old f.bytes) (λ id. sym (kept.same held id ∙ keeps.same w.holds id)) before)
-              | inr behind ↦ inr (subst (λ b. Rattle.oc_slots.specs.Forms.Gives image (map_of h new (put_cells plan.draft.writes b))) all_written behind)
+              | inl before ↦ inl (gives_same h.first image (map_of h old d.bytes) (map_of h old f.bytes) (λ id. sym (kept.same held id ∙ keeps.same w.holds id)) before)
+              | inr behind ↦ inr (subst (λ b. GivesFrom h.first image (map_of h new (put_cells plan.draft.writes b))) all_written behind)
             ],
           )
 

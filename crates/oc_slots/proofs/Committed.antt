@@ -1,15 +1,15 @@
 -- The file once a commit's log is put in and its gate is closed: it holds the new pages.
-use Rattle.std.proofs.Common.{◌≡◌, ◌≢◌, ◌∙◌, ◌⊎◌, inl, inr, ℕ, ◌+◌, ◌*◌, ◌<◌, ◌≤◌, max, cond, List, [], ◌∷◌, ◌++◌, length, get_or, drop, take, append-nil, refl, sym, ap, subst, subst₂, arith}
+use Rattle.std.proofs.Common.{◌≡◌, ◌≢◌, ◌∙◌, inl, inr, ℕ, ◌+◌, ◌*◌, ◌<◌, ◌≤◌, max, cond, List, [], ◌∷◌, ◌++◌, length, get_or, drop, refl, sym, ap, subst, subst₂, arith}
 use Rattle.std.specs.Prelude.{All}
 use Rattle.std.proofs.lemmas.Bool.{cases_eq, cases_lt}
 use Rattle.std.proofs.lemmas.List.Sums.{sum_by-cons}
 use Rattle.oc_layout.specs.declared.cells.Cell.{Cell}
 use Rattle.oc_layout.specs.declared.cells.CellWrite.{CellWrite}
 use Rattle.oc_layout.specs.declared.cells.Header.{Header}
-use Rattle.oc_layout.specs.Layout.{unit_of, is_wide, blocks, write_len, cell_bytes, first_cell, log_bytes, FitsCell}
+use Rattle.oc_layout.specs.Layout.{unit_of, is_wide, blocks, write_len, first_cell, log_bytes, FitsCell}
 use Rattle.oc_layout.specs.Headers.{fields}
 use Rattle.oc_host.specs.Disk.{Disk, IsDisk, IsSynced, Apart, over}
-use Rattle.oc_log.specs.Log.{with_log, put_cells, log_at, padded, staged, settled, Clear, AllWithin}
+use Rattle.oc_log.specs.Log.{with_log, put_cells, log_at, padded, staged, Clear, AllWithin}
 use Rattle.oc_log.specs.States.{MayPrepare}
 use Rattle.oc_log.specs.Stops.{HasAll}
 use Rattle.oc_log.proofs.Bytes.{length-over, length-padded, length-over-in, over_out, over_in, length-put, put_out, put_same_in}

@@ -21,11 +21,11 @@ use Rattle.oc_pages.proofs.Images.{first_same}
 use Rattle.oc_room.specs.Rooms.{owns, owners}
 use Rattle.oc_slots.specs.Maps.{content}
 use Rattle.oc_slots.specs.declared.slot.SlotId.{SlotId}
-use Rattle.oc_slots.specs.Forms.{LiesIn, ToPutIn, HasForm, IsOwn, IsTarget, Gives, header_cell, log_things}
+use Rattle.oc_slots.specs.Forms.{LiesIn, ToPutIn, HasForm, IsOwn, IsTarget, Gives, GivesFrom, header_cell, log_things}
 use Rattle.oc_slots.specs.Held.{IsHeld, IsBeside, Holds, map_of}
 use Rattle.oc_slots.specs.Commits.{IsCommit}
 use Rattle.oc_slots.proofs.Apart.{beside_first}
-use Rattle.oc_slots.proofs.Changed.{unit_same, room_same, wide_same, root_same, begins_changed, first_page_same}
+use Rattle.oc_slots.proofs.Changed.{first_number_same, unit_same, room_same, wide_same, root_same, begins_changed, first_page_same}
 use Rattle.oc_slots.proofs.Headers.{unit_some, blocks_rise}
 use Rattle.oc_slots.proofs.HeldGives.{held_inside}
 use Rattle.oc_slots.proofs.Things.{IsAlike, tail_of, slots_alike, pages_alike}
@@ -122,8 +122,8 @@ module _ (h : Header) (old new : List Page) (d : Disk) (holds : Holds h old d) (
     page_none : first_page_of h ≡ first_page_of (fields image)
     page_none = ap first_page_of holds.header.fields ∙ sym (first_page_same d.bytes image (λ k ge lt. header_none k (omega (arith, lt)) (inl (omega (arith, lt))) (inl (omega (arith, lt)))) (λ k ge lt. header_none k (omega (arith, lt)) (inr (omega (arith, ge))) (inl (omega (arith, lt)))) (header_none 65 (omega arith) (inr (omega arith)) (inr (omega arith))))
 
-    pub gives_old : Gives image (map_of h old d.bytes)
-    gives_old = record {
+    map_old : Gives image (map_of h old d.bytes)
+    map_old = record {
       header = fields image;
       writes = [];
       pages = old;
@@ -139,6 +139,10 @@ module _ (h : Header) (old new : List Page) (d : Disk) (holds : Holds h old d) (
       };
       slots = λ id. sym (slots_alike (unit_of h) d.bytes image old holds.inside inside_old alike_old id.space id.number) ∙ (λ i. content (sym unit_none i) image (pointer_of old id.space id.number));
     }
+
+    pub gives_old : GivesFrom h.first image (map_of h old d.bytes)
+    unfolding map_old
+    gives_old = record { gives = map_old; is_first = first_number_same h d.bytes image holds.header long_none raw_none }
 
   -- ---- all of them
 
@@ -201,8 +205,11 @@ module _ (h : Header) (old new : List Page) (d : Disk) (holds : Holds h old d) (
       slots_with : (id : SlotId) → map_of h new (put_cells cells d.bytes) id ≡ content (unit_of (fields image)) (put_cells ws image) (pointer_of new id.space id.number)
       slots_with = λ id. sym (slots_alike (unit_of h) (put_cells cells d.bytes) (put_cells ws image) new inside_after inside_put alike_new id.space id.number) ∙ (λ i. content (sym unit_all i) (put_cells ws image) (pointer_of new id.space id.number))
 
-      pub gives_with : Gives image (map_of h new (put_cells cells d.bytes))
-      gives_with = record { header = fields image; writes = ws; pages = new; form = form_with; slots = slots_with }
+      pub gives_with : GivesFrom h.first image (map_of h new (put_cells cells d.bytes))
+      gives_with = record {
+        gives = record { header = fields image; writes = ws; pages = new; form = form_with; slots = slots_with };
+        is_first = first_number_same h d.bytes image holds.header long_all raw;
+      }
 
     own_after : (k : ℕ) → IsOwn h k → get_or (settled h1 image) k 0 ≡ get_or d.bytes k 0
     own_after k own =
@@ -225,8 +232,8 @@ module _ (h : Header) (old new : List Page) (d : Disk) (holds : Holds h old d) (
       pub shut_slots : (id : SlotId) → map_of h new (put_cells cells d.bytes) id ≡ content (unit_of (fields image)) image (pointer_of new id.space id.number)
       shut_slots = slots_with [] reads_shut refl (inl (closed, refl)) raw_shut no_log_new (λ k w lt. absurd (omega (arith, lt)))
 
-      shut : Gives image (map_of h new (put_cells cells d.bytes))
-      shut = record { header = fields image; writes = []; pages = new; form = shut_form; slots = shut_slots }
+      shut : GivesFrom h.first image (map_of h new (put_cells cells d.bytes))
+      shut = gives_with [] reads_shut refl (inl (closed, refl)) raw_shut no_log_new (λ k w lt. absurd (omega (arith, lt)))
 
     -- behind an open one
     module _ (gate : get_or image 64 0 ≡ 1) where
@@ -264,14 +271,14 @@ module _ (h : Header) (old new : List Page) (d : Disk) (holds : Holds h old d) (
         | inr cell ↦ inr (cell.0, cell.1, ap (λ u. target_of u new cell.0 cell.1) unit_open ∙ cell.2)
       ]
 
-      opened : Gives image (map_of h new (put_cells cells d.bytes))
+      opened : GivesFrom h.first image (map_of h new (put_cells cells d.bytes))
       opened = gives_with cells reads_open (length-put cells image has.targets.within) (inr (gate, behind_open, moved)) raw_open (apart_open cells) targets_open
 
-    pub gives_new : Gives image (map_of h new (put_cells cells d.bytes))
+    pub gives_new : GivesFrom h.first image (map_of h new (put_cells cells d.bytes))
     gives_new = elim (cases_eq (get_or image 64 0) 1) [ inl gate ↦ opened gate | inr closed ↦ shut closed ]
 
   -- ---- either
 
-  pub either_gives : NoneOrAll h1 cells d image said → (said ≡ d.said) × (Gives image (map_of h old d.bytes) ⊎ Gives image (map_of h new (put_cells cells d.bytes)))
+  pub either_gives : NoneOrAll h1 cells d image said → (said ≡ d.said) × (GivesFrom h.first image (map_of h old d.bytes) ⊎ GivesFrom h.first image (map_of h new (put_cells cells d.bytes)))
   either_gives (inl none) = (none.told, inl (gives_old none))
   either_gives (inr all) = (all.told, inr (gives_new all))

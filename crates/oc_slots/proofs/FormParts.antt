@@ -171,7 +171,7 @@ target_page P unit pages space number target all e = go (page_holding pages spac
         let value : p.at * unit + 16 + 8 * slot_in p number ≡ target = cc is in
         (p, All-contains (λ q. P (place_of q)) pages p (of_pages P pages all) there.0, omega (arith, value), omega (arith, value, w.above, w.below))
 
-all_clear : (at n : ℕ) (ws : List CellWrite) → All (λ w. (w.target + 8 ≤ at) ⊎ (at + n ≤ w.target)) ws → AllClear at n ws
+pub all_clear : (at n : ℕ) (ws : List CellWrite) → All (λ w. (w.target + 8 ≤ at) ⊎ (at + n ≤ w.target)) ws → AllClear at n ws
 all_clear at n [] all = tt
 all_clear at n (w ∷ ws) all = (All-head (λ (x : CellWrite). (x.target + 8 ≤ at) ⊎ (at + n ≤ x.target)) w ws all, all_clear at n ws (All-tail (λ (x : CellWrite). (x.target + 8 ≤ at) ⊎ (at + n ≤ x.target)) w ws all))
 

@@ -8,7 +8,7 @@ use Rattle.oc_slots.specs.Attaching.{ReadsLog, HasFront}
 pub one_header : (b : List ℕ) (g h : Header) → Begins g b → Begins h b → g ≡ h
 one_header b g h x y = x.fields ∙ sym y.fields
 
-some_same : (vs ws : List CellWrite) → Some vs ≡ Some ws → vs ≡ ws
+pub some_same : (vs ws : List CellWrite) → Some vs ≡ Some ws → vs ≡ ws
 some_same vs ws e = cc
 
 pub one_log : (h : Header) (b : List ℕ) (vs ws : List CellWrite) → ReadsLog h b vs → ReadsLog h b ws → vs ≡ ws

@@ -8,8 +8,9 @@ use Rattle.oc_host.specs.Disk.{Disk, IsImage, Fixed, now}
 use Rattle.oc_pages.specs.declared.page.Page.{Page}
 use Rattle.oc_pages.specs.Pages.{things_of}
 use Rattle.oc_pages.specs.Chains.{HasPages}
-use Rattle.oc_slots.specs.Forms.{Begins, LiesIn, HasForm, Gives, header_cell}
+use Rattle.oc_slots.specs.Forms.{Begins, LiesIn, HasForm, GivesFrom, header_cell}
 use Rattle.oc_slots.specs.Held.{IsHeld, Holds, map_of}
+use Rattle.oc_slots.specs.Maps.{SlotMap, Same}
 use Rattle.oc_slots.proofs.Headers.{unit_some, blocks_rise, begins_alike}
 use Rattle.oc_slots.proofs.Things.{IsAlike, tail_of, slots_alike, pages_alike}
 
@@ -61,11 +62,20 @@ module _ (h : Header) (pages : List Page) (d : Disk) (holds : Holds h pages d) (
     targets = λ k w lt. absurd (omega (arith, lt));
   }
 
-  pub held_gives : Gives image (map_of h pages d.bytes)
+  pub held_gives : GivesFrom h.first image (map_of h pages d.bytes)
   held_gives = record {
-    header = h;
-    writes = [];
-    pages = pages;
-    form = form;
-    slots = λ id. sym (slots_alike (unit_of h) d.bytes image pages holds.inside inside alike id.space id.number);
+    gives = record {
+      header = h;
+      writes = [];
+      pages = pages;
+      form = form;
+      slots = λ id. sym (slots_alike (unit_of h) d.bytes image pages holds.inside inside alike id.space id.number);
+    };
+    is_first = refl;
   }
+
+-- an image gives any map that is the same
+pub gives_same : (first : ℕ) (image : List ℕ) (m n : SlotMap) → Same m n → GivesFrom first image n → GivesFrom first image m
+gives_same first image m n same from =
+    let g = from.gives in
+    record { gives = record { header = g.header; writes = g.writes; pages = g.pages; form = g.form; slots = λ id. same id ∙ g.slots id }; is_first = from.is_first }

@@ -1,48 +1,19 @@
--- Which slots move by a commit, and that the session is the last commit where none does.
-use Rattle.std.proofs.Common.{◌≡◌, ◌≢◌, ◌∙◌, ℕ, nat_eq, Bool, true, false, List, [], ◌∷◌, map, Option, Some, None, refl, sym, ap, subst}
-use Rattle.std.specs.Prelude.{◌||◌, ◌&&◌, is_some, option_map, if◌then◌else◌}
+-- Where no slot moves, the session with the last changes is the last commit.
+use Rattle.std.proofs.Common.{◌≡◌, ◌≢◌, ◌∙◌, ℕ, nat_eq, Bool, true, false, List, [], ◌∷◌, Option, Some, None, refl, sym, ap}
+use Rattle.std.specs.Prelude.{◌||◌, ◌&&◌, is_some}
 use Rattle.std.specs.List.{list_any}
 use Rattle.std.specs.Map.{lookup}
 use Rattle.std.specs.Option.{option_map_or}
 use Rattle.oc_layout.specs.declared.cells.Cell.{Cell}
-use Rattle.oc_layout.specs.declared.cells.Space as spaces
-use Rattle.oc_layout.specs.declared.cells.Space.TheVariants.{Objects, System}
 use Rattle.oc_pages.specs.declared.page.Page.{Page}
 use Rattle.oc_pages.specs.Pages.{pointer_of}
 use Rattle.oc_slots.specs.declared.overlay.Overlay.{Overlay}
-use Rattle.oc_slots.specs.declared.placed.PlacedChange.{PlacedChange}
-use Rattle.oc_slots.specs.declared.placed.Slot.{Slot}
 use Rattle.oc_slots.specs.declared.slot.SlotChange.{SlotChange}
 use Rattle.oc_slots.specs.declared.slot.SlotId.{SlotId}
-use Rattle.oc_slots.specs.Maps.{SlotMap, is_same, changed, content}
-use Rattle.oc_slots.specs.Slots.{changes_of, change_of}
-use Rattle.oc_slots.specs.Noting.{place_of, place_in, placed_place}
-use Rattle.oc_slots.specs.Planning.{has_after, moves}
-use Rattle.oc_slots.specs.Turnovers.{is_moved}
-
--- ---- by the changes and by where they are placed
-
-named_same : (placed : List PlacedChange) (id : SlotId) → list_any (λ p. is_same p.id id) placed ≡ list_any (λ c. is_same c.id id) (map change_of placed)
-named_same [] id = refl
-named_same (p ∷ ps) id = ap (λ b. is_same p.id id || b) (named_same ps id)
-
-there_same : (placed : List PlacedChange) (id : SlotId) (base : Option Cell) → is_some (placed_place placed id base) ≡ has_after (map change_of placed) id (is_some base)
-there_same [] id base = refl
-there_same (p ∷ ps) id base = go (is_same p.id id) refl (there_same ps id base)
-  where
-    one : (o : Option Slot) → p.slot ≡ o → is_some (place_of p) ≡ is_some (change_of p).bytes
-    one None e = rw e refl
-    one (Some s) e = rw e refl
-
-    go : (b : Bool) → is_same p.id id ≡ b → is_some (placed_place ps id base) ≡ has_after (map change_of ps) id (is_some base) → is_some (placed_place (p ∷ ps) id base) ≡ has_after (map change_of (p ∷ ps)) id (is_some base)
-    go true e rest = rw e (one p.slot refl)
-    go false e rest = rw e rest
-
-pub moved_moves : (pages : List Page) (o : Overlay) (placed : List PlacedChange) (id : SlotId) → is_moved pages o placed id ≡ moves pages o (map change_of placed) id
-moved_moves pages o placed id i =
-    (named_same placed id i || is_some (lookup (nat_eq id.number) (changes_of o id.space))) && (there_same placed id (place_in pages o id) i || is_some (pointer_of pages id.space id.number))
-
--- ---- where no slot moves
+use Rattle.oc_slots.specs.Maps.{SlotMap, has_after, is_same, changed, content}
+use Rattle.oc_slots.specs.Slots.{changes_of}
+use Rattle.oc_slots.specs.Noting.{place_in}
+use Rattle.oc_slots.specs.Planning.{moves}
 
 not_named : (last : List SlotChange) (m : SlotMap) (id : SlotId) → list_any (λ c. is_same c.id id) last ≡ false → changed last m id ≡ m id
 not_named [] m id e = refl
@@ -99,3 +70,12 @@ idle_map unit b pages o last m id is idle = go (list_any (λ c. is_same c.id id)
     go true named l found = gone (neither (list_any (λ c. is_same c.id id) last || is_some (lookup (nat_eq id.number) (changes_of o id.space))) _ (ap (λ x. x || is_some (lookup (nat_eq id.number) (changes_of o id.space))) named) idle)
     go false named None found = sym (not_named last m id named ∙ is ∙ ap (λ x. content unit b (option_map_or (λ y. y) x (pointer_of pages id.space id.number))) found)
     go false named (Some c) found = gone (neither (list_any (λ c. is_same c.id id) last || is_some (lookup (nat_eq id.number) (changes_of o id.space))) _ (ap (λ x. x || is_some (lookup (nat_eq id.number) (changes_of o id.space))) named ∙ ap is_some found) idle)
+
+-- and a slot is there as it was
+pub idle_there : (pages : List Page) (o : Overlay) (last : List SlotChange) (id : SlotId) → moves pages o last id ≢ true → is_some (pointer_of pages id.space id.number) ≡ has_after last id (is_some (place_in pages o id))
+idle_there pages o last id idle =
+    let m : SlotMap = λ i. content 0 [] (place_in pages o i) in
+    sym (some_content 0 [] (pointer_of pages id.space id.number))
+    ∙ ap is_some (idle_map 0 [] pages o last m id refl idle)
+    ∙ has_changed last m id
+    ∙ ap (has_after last id) (some_content 0 [] (place_in pages o id))

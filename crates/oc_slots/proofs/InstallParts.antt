@@ -16,7 +16,7 @@ use Rattle.oc_free.specs.FreeParts.{free_at}
 use Rattle.oc_pages.specs.declared.page.Page.{Page}
 use Rattle.oc_pages.specs.Pages.{Paged, things_of, with_pointer, IsOther}
 use Rattle.oc_pages.proofs.PointerLaws.{cells_kept as all_kept}
-use Rattle.oc_room.specs.Rooms.{Space, Tiles, IsRoom, owns, owners}
+use Rattle.oc_room.specs.Rooms.{Space, Tiles, IsRoom, owns, owners, AreInOrder}
 use Rattle.oc_room.proofs.Counting.{no_cell}
 use Rattle.oc_slots.specs.declared.commit_plan.CommitPlan.{CommitPlan}
 use Rattle.oc_slots.specs.declared.new_pages.NewPage.{NewPage}
@@ -32,12 +32,15 @@ use Rattle.oc_slots.specs.Turnovers.{places_of, with_added}
 use Rattle.oc_slots.specs.Planning.{IsPlan, places, pages_after, end_over}
 use Rattle.oc_slots.proofs.AddedPages.{things_new, replaced_new, cells_new, others_new}
 use Rattle.oc_slots.proofs.FormParts.{cells_kept}
-use Rattle.oc_slots.proofs.InstallEnds.{end_placed, order_grows, moved_all}
-use Rattle.oc_slots.proofs.Noted.{left_of, right_of, owners_append}
+use Rattle.oc_slots.proofs.MovedThings.{moved_all}
+use Rattle.oc_slots.proofs.Things.{left_of, right_of}
+use Rattle.oc_slots.proofs.Noted.{owners_append}
 use Rattle.oc_slots.proofs.Placing.{tiles_placed}
 use Rattle.oc_slots.proofs.PointedPages.{things_all}
 use Rattle.oc_slots.proofs.SessionChange.{some_placed, cells_some}
 use Rattle.oc_slots.proofs.Tilings.{tiles_within, each_once}
+use Rattle.oc_slots.proofs.InOrder.{order_blocks}
+use Rattle.oc_room.proofs.Orders.{order_end}
 
 pub pages_some : (added : List NewPage) → All (λ (c : Cell). 1 ≤ c.len) (places_of added)
 pages_some [] = λ k d lt. absurd (omega (arith, lt))
@@ -68,7 +71,7 @@ module _ (h : Header) (pages : Paged) (o : Overlay) (room r : Space) (fresh len 
 
   -- what was there and what is placed tile the file
   pub tiled_placed : Tiles r (old ++ places plan)
-  tiled_placed = tiles_placed room r old (places plan) whole.tiles f.room_unit (order_grows room.unit room.end r.end (places plan) f.order) f.opened f.is_room.within
+  tiled_placed = tiles_placed room r old (places plan) whole.tiles f.room_unit (order_end room.unit room.end r.end (places plan) f.order) f.opened f.is_room.within
 
   pub placed_some : All (λ c. 1 ≤ c.len) (cells_of plan.placed.items)
   placed_some = cells_some (slots_of plan.placed.items) (some_placed last plan.placed.items f.are is.some f.sizes)
@@ -156,7 +159,7 @@ module _ (h : Header) (pages : Paged) (o : Overlay) (room r : Space) (fresh len 
   pub end_is : r.end ≡ blocks (unit_of h) plan.end
   end_is =
       subst (λ u. r.end ≡ blocks u (end_over u len (places plan))) whole.unit
-      (end_placed room.unit len room.end r.end (places plan) whole.is_room.unit (whole.end ∙ (λ i. blocks (sym whole.unit i) len)) f.order)
+      (order_blocks room.unit len r.end (places plan) whole.is_room.unit (subst (λ e. AreInOrder room.unit e (places plan) r.end) (whole.end ∙ (λ i. blocks (sym whole.unit i) len)) f.order))
       ∙ ap (blocks (unit_of h)) (sym f.end)
 
   -- ---- the header then

@@ -1,14 +1,12 @@
 -- Pieces in runs: the lists of pieces and of runs grow at their ends.
-use Rattle.std.proofs.Common.{◌≡◌, ◌∙◌, inl, inr, ℕ, ◌+◌, ◌*◌, ◌≤◌, max, List, [], ◌∷◌, ◌++◌, length, take, drop, get_or, sym, ap, subst, refl, arith, length-append, append-nil}
+use Rattle.std.proofs.Common.{◌≡◌, ◌∙◌, inl, inr, ℕ, ◌+◌, ◌≤◌, List, [], ◌∷◌, ◌++◌, length, take, drop, sym, ap, subst, refl, arith, length-append}
 use Rattle.std.specs.Prelude.{All}
 use Rattle.std.proofs.Math.Seq.{take-append_seam, drop-append-add, get_or-append_seam}
 use Rattle.std.proofs.lemmas.List.{append_assoc, get_or_append_left, length-take-le, drop-drop}
 use Rattle.std.proofs.lemmas.List.Elements.{All-append, All-cons}
-use Rattle.oc_layout.specs.declared.cells.Cell.{Cell}
 use Rattle.oc_host.specs.Disk.{over}
-use Rattle.oc_log.proofs.Bytes.{length-over}
 use Rattle.oc_slots.specs.Held.{IsBeside}
-use Rattle.oc_slots.specs.Pieces.{Piece, over_all, Fit, AreBeside, AreWithin, AreJoined}
+use Rattle.oc_slots.specs.Pieces.{Piece, over_all, Fit, AreJoined}
 
 pub over_last : (ps : List Piece) (p : Piece) (b : List ℕ) → over_all (ps ++ p ∷ []) b ≡ over p.at p.bytes (over_all ps b)
 over_last [] p b = refl

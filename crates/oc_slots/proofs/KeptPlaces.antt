@@ -32,19 +32,21 @@ use Rattle.oc_slots.proofs.CacheLists.{is_itself}
 use Rattle.oc_slots.proofs.Forgotten.{all_left, among_contained}
 use Rattle.oc_slots.proofs.Noted.{each_in, owners_append, put_measure}
 use Rattle.oc_slots.proofs.SessionBytes.{place_has, noted_has}
-use Rattle.oc_slots.proofs.SessionMap.{is_true, put_other, noted_place}
+use Rattle.oc_slots.proofs.SameSlots.{is_true}
+use Rattle.oc_slots.proofs.SessionMap.{put_other, noted_place}
 use Rattle.oc_slots.proofs.Sessions.{cells_one}
 use Rattle.oc_slots.proofs.Things.{tail_of, pointed}
 
 -- ---- what places and maps depend on
 
-same_space : (h : Header) (pages : Paged) (o : Overlay) (room : Space) (len : ℕ) (es : Cached) (space : spaces.Space) → changes_in (parts h pages o room len es) space ≡ changes_of o space
-same_space h pages o room len es Objects = refl
-same_space h pages o room len es System = refl
+-- what changed in a space, as the store is seen
+pub changes_seen : (h : Header) (pages : Paged) (o : Overlay) (room : Space) (len : ℕ) (es : Cached) (space : spaces.Space) → changes_in (parts h pages o room len es) space ≡ changes_of o space
+changes_seen h pages o room len es Objects = refl
+changes_seen h pages o room len es System = refl
 
 -- where the session has a slot, by the overlay over the pages
 pub session_is : (h : Header) (pages : Paged) (o : Overlay) (room : Space) (len : ℕ) (es : Cached) (id : SlotId) → place_on Session (parts h pages o room len es) id ≡ place_in pages.pages o id
-session_is h pages o room len es id = ap (λ cs. option_map_or (λ x. x) (lookup (nat_eq id.number) cs) (pointer_of pages.pages id.space id.number)) (same_space h pages o room len es id.space)
+session_is h pages o room len es id = ap (λ cs. option_map_or (λ x. x) (lookup (nat_eq id.number) cs) (pointer_of pages.pages id.space id.number)) (changes_seen h pages o room len es id.space)
 
 -- what is kept changes no place
 pub place_bare : (h : Header) (pages : Paged) (o : Overlay) (room : Space) (len : ℕ) (es : Cached) (side : Side) (id : SlotId) → place_on side (parts h pages o room len []) id ≡ place_on side (parts h pages o room len es) id
@@ -205,6 +207,13 @@ place_there h pages o room len c (Session, (id, e)) =
 
 module _ (h : Header) (pages : Paged) (o q : Overlay) (room t : Space) (len end : ℕ) (ps : List PlacedChange) (distinct : AllPairs (λ a b. is_same a.id b.id ≡ false) ps)
     (are : (space : spaces.Space) → changes_of q space ≡ noted ps space (changes_of o space)) where
+  -- the session has a slot where it was placed, and else where it had it
+  pub session_then : (id : SlotId) → place_on Session (parts h pages q t end []) id ≡ placed_place ps id (place_in pages.pages o id)
+  session_then id =
+      session_is h pages q t end [] id
+      ∙ ap (λ cs. option_map_or (λ x. x) (lookup (nat_eq id.number) cs) (pointer_of pages.pages id.space id.number)) (are id.space)
+      ∙ noted_place ps id (changes_of o id.space) (pointer_of pages.pages id.space id.number) distinct
+
   -- what isn't left is a place still
   pub stays_placed : (c : Cell) → IsPlace (parts h pages o room len []) c → is_among (left_by o ps) c ≡ false → IsPlace (parts h pages q t end []) c
   stays_placed c (Committed, (id, e)) left = (Committed, (id, e))
@@ -220,11 +229,7 @@ module _ (h : Header) (pages : Paged) (o q : Overlay) (room t : Space) (len end 
           let same : Some x ≡ Some c = ap (λ r. option_map_or (λ x. x) r (pointer_of pages.pages id.space id.number)) (sym is) ∙ old in
           let has : noted_cells o id ≡ c ∷ [] = ap (λ r. cell_list (option_flatten r)) is ∙ ap cell_list same in (
             Session,
-            (
-              id,
-              session_is h pages q t end [] id ∙ ap (λ cs. option_map_or (λ x. x) (lookup (nat_eq id.number) cs) (pointer_of pages.pages id.space id.number)) (are id.space)
-                  ∙ noted_place ps id (changes_of o id.space) (pointer_of pages.pages id.space id.number) distinct ∙ left_or_same o ps id c (place_in pages.pages o id) has left ∙ old,
-            ),
+            (id, session_then id ∙ left_or_same o ps id c (place_in pages.pages o id) has left ∙ old),
           )
 
   module _ (unit : ℕ) (pos : 0 < unit) (some : All (λ c. 1 ≤ c.len) (things_of pages.pages ++ fresh_of q)) (once : (k : ℕ) → owners unit ((things_of pages.pages ++ fresh_of o) ++ cells_of ps) k ≤ 1) where

@@ -26,12 +26,12 @@ use Rattle.oc_slots.specs.Stores.{Agrees, ArePlaces, AreRead, IsPlace, IsWhole, 
 use Rattle.oc_slots.specs.Writing.{Keeps}
 use Rattle.oc_slots.proofs.Forgotten.{all_left, exactly}
 use Rattle.oc_slots.proofs.KeptPlaces.{session_is, with_kept, without_kept, place_same, stays_placed, left_goes, stays_committed, fresh_goes, reads_left}
-use Rattle.oc_slots.proofs.Noted.{owners_append, right_of}
+use Rattle.oc_slots.proofs.Noted.{owners_append}
 use Rattle.oc_slots.proofs.SessionBytes.{base_kept}
 use Rattle.oc_slots.proofs.SessionChange.{fresh_same, cells_some}
 use Rattle.oc_slots.proofs.SessionMap.{distinct_of}
 use Rattle.oc_slots.proofs.SessionSteps.{seen, IsPlaced, IsNoted, pos_unit, once_unit, ends_unit, slots_some, in_room, whole_after}
-use Rattle.oc_slots.proofs.Things.{tail_of}
+use Rattle.oc_slots.proofs.Things.{tail_of, right_of}
 use Rattle.oc_slots.proofs.Tilings.{each_once}
 
 module _ (h : Header) (pages : Paged) (o p : Overlay) (room r : Space) (fresh len : ℕ) (changes : List SlotChange) (ps : List PlacedChange) (planned : Planned) (f : IsPlaced h pages o p room r fresh len changes ps planned) (es : Cached) (places : ArePlaces (seen h pages o room len) es) where

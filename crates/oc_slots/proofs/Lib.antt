@@ -34,6 +34,7 @@ pub mod Plans
 pub mod Headers
 pub mod HeldGives
 pub mod OneMap
+pub mod SameSlots
 pub mod Things
 pub mod Writes
 pub mod PlacedSlots
@@ -52,7 +53,7 @@ pub mod TurnoverSlots
 pub mod TurnoverSums
 pub mod TurnoverOrder
 pub mod Turnovers
-pub mod InstallEnds
+pub mod MovedThings
 pub mod InstallParts
 pub mod InOrder
 pub mod JoinedMore

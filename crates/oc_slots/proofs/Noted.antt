@@ -1,9 +1,9 @@
 -- A change that is noted in an overlay.
-use Rattle.std.proofs.Common.{◌≡◌, ◌∙◌, inl, inr, ℕ, zero, suc, ◌+◌, ◌≤◌, ◌<◌, Bool, true, false, nat_eq, cond, List, [], ◌∷◌, ◌++◌, length, get_or, Option, Some, None, sym, ap, subst, refl, arith, length-append}
-use Rattle.std.specs.Prelude.{All, Contains, flat_map}
+use Rattle.std.proofs.Common.{◌≡◌, ◌∙◌, ℕ, ◌+◌, ◌≤◌, ◌<◌, Bool, true, false, nat_eq, cond, List, [], ◌∷◌, ◌++◌, length, get_or, Option, Some, None, sym, ap, subst, refl, arith, length-append}
+use Rattle.std.specs.Prelude.{All, Contains}
 use Rattle.std.specs.Map.{lookup}
 use Rattle.std.specs.Option.{option_flatten}
-use Rattle.std.proofs.lemmas.List.{get_or_append_left, get_or_default}
+use Rattle.std.proofs.lemmas.List.{get_or_default}
 use Rattle.std.proofs.lemmas.List.Elements.{All-append, Contains-append_left, Contains-append_right}
 use Rattle.std.proofs.lemmas.List.Sums.{sum_by-append}
 use Rattle.indexmap.specs.IndexMap.{insert_entry}
@@ -21,7 +21,7 @@ use Rattle.oc_slots.specs.declared.slot.SlotId.{SlotId}
 use Rattle.oc_slots.specs.Slots.{Changes, changes_of, put_change, cell_list, places_in}
 use Rattle.oc_slots.specs.Stores.{fresh_of}
 use Rattle.oc_slots.specs.Noting.{noted_cells, IsSession}
-use Rattle.oc_slots.proofs.Things.{tail_of}
+use Rattle.oc_slots.proofs.Things.{left_of, right_of}
 
 -- what is counted of cells
 module _ (m : List Cell → ℕ) (add : (xs ys : List Cell) → m (xs ++ ys) ≡ m xs + m ys) where
@@ -77,20 +77,13 @@ module _ (m : List Cell → ℕ) (add : (xs ys : List Cell) → m (xs ++ ys) ≡
 
 -- what holds of all places that were noted, and of the new one, holds of all that are noted now
 module _ (P : Cell → Type 0) where
-  pub left_of : (xs ys : List Cell) → All P (xs ++ ys) → All P xs
-  left_of xs ys all k d lt = subst P (get_or_append_left xs ys d k lt) (all k d (omega (arith, lt, length-append xs ys)))
-
-  pub right_of : (xs ys : List Cell) → All P (xs ++ ys) → All P ys
-  right_of [] ys all = all
-  right_of (x ∷ xs) ys all = right_of xs ys (tail_of P x (xs ++ ys) all)
-
   put_members : (cs : Changes) (n : ℕ) (o : Option Cell) → All P (places_in cs) → All P (cell_list o) → All P (places_in (insert_entry nat_eq cs n o))
   put_members [] n o all here = All-append P (cell_list o) [] here all
-  put_members (e ∷ es) n o all here = go (nat_eq n e.0) refl (put_members es n o (right_of (cell_list e.1) (places_in es) all) here)
+  put_members (e ∷ es) n o all here = go (nat_eq n e.0) refl (put_members es n o (right_of P (cell_list e.1) (places_in es) all) here)
     where
       go : (b : Bool) → nat_eq n e.0 ≡ b → All P (places_in (insert_entry nat_eq es n o)) → All P (places_in (insert_entry nat_eq (e ∷ es) n o))
-      go true t rest = rw t (All-append P (cell_list o) (places_in es) here (right_of (cell_list e.1) (places_in es) all))
-      go false t rest = rw t (All-append P (cell_list e.1) (places_in (insert_entry nat_eq es n o)) (left_of (cell_list e.1) (places_in es) all) rest)
+      go true t rest = rw t (All-append P (cell_list o) (places_in es) here (right_of P (cell_list e.1) (places_in es) all))
+      go false t rest = rw t (All-append P (cell_list e.1) (places_in (insert_entry nat_eq es n o)) (left_of P (cell_list e.1) (places_in es) all) rest)
 
   pub fresh_members : (old new : Overlay) (id : SlotId) (o : Option Cell) → ((space : Space) → changes_of new space ≡ put_change id o space (changes_of old space)) → All P (fresh_of old) → All P (cell_list o) → All P (fresh_of new)
   fresh_members old new id o put all here = go id.space refl
@@ -100,14 +93,14 @@ module _ (P : Cell → Type 0) where
           let one : changes_of new Objects ≡ insert_entry nat_eq (changes_of old Objects) id.number o = put Objects ∙ rw e refl in
           let two : changes_of new System ≡ changes_of old System = put System ∙ rw e refl in
           All-append P (places_in (changes_of new Objects)) (places_in (changes_of new System))
-          (subst (λ l. All P (places_in l)) (sym one) (put_members (changes_of old Objects) id.number o (left_of (places_in (changes_of old Objects)) (places_in (changes_of old System)) all) here))
-          (subst (λ l. All P (places_in l)) (sym two) (right_of (places_in (changes_of old Objects)) (places_in (changes_of old System)) all))
+          (subst (λ l. All P (places_in l)) (sym one) (put_members (changes_of old Objects) id.number o (left_of P (places_in (changes_of old Objects)) (places_in (changes_of old System)) all) here))
+          (subst (λ l. All P (places_in l)) (sym two) (right_of P (places_in (changes_of old Objects)) (places_in (changes_of old System)) all))
       go System e =
           let one : changes_of new System ≡ insert_entry nat_eq (changes_of old System) id.number o = put System ∙ rw e refl in
           let two : changes_of new Objects ≡ changes_of old Objects = put Objects ∙ rw e refl in
           All-append P (places_in (changes_of new Objects)) (places_in (changes_of new System))
-          (subst (λ l. All P (places_in l)) (sym two) (left_of (places_in (changes_of old Objects)) (places_in (changes_of old System)) all))
-          (subst (λ l. All P (places_in l)) (sym one) (put_members (changes_of old System) id.number o (right_of (places_in (changes_of old Objects)) (places_in (changes_of old System)) all) here))
+          (subst (λ l. All P (places_in l)) (sym two) (left_of P (places_in (changes_of old Objects)) (places_in (changes_of old System)) all))
+          (subst (λ l. All P (places_in l)) (sym one) (put_members (changes_of old System) id.number o (right_of P (places_in (changes_of old Objects)) (places_in (changes_of old System)) all) here))
 
 -- each of the list is in it
 pub each_in : (xs : List Cell) → All (λ c. Contains xs c) xs

@@ -1,5 +1,5 @@
 -- A file gives one map at most.
-use Rattle.std.proofs.Common.{◌≡◌, ◌∙◌, inl, inr, ℕ, List, Some, sym, subst}
+use Rattle.std.proofs.Common.{◌≡◌, ◌∙◌, inl, inr, ℕ, List, sym, subst}
 use Rattle.oc_layout.specs.declared.cells.CellWrite.{CellWrite}
 use Rattle.oc_layout.specs.declared.cells.Header.{Header}
 use Rattle.oc_layout.specs.Layout.{unit_of, first_page_of}
@@ -11,9 +11,7 @@ use Rattle.oc_pages.specs.Chains.{Chain}
 use Rattle.oc_pages.proofs.ChainLaws.{chain_only}
 use Rattle.oc_slots.specs.Maps.{SlotMap, Same, content}
 use Rattle.oc_slots.specs.Forms.{ToPutIn, HasForm, Gives}
-
-some_same : (vs ws : List CellWrite) → Some vs ≡ Some ws → vs ≡ ws
-some_same vs ws e = cc
+use Rattle.oc_slots.proofs.Fronts.{some_same}
 
 one_log : (h : Header) (image : List ℕ) (vs ws : List CellWrite) → ToPutIn h image vs → ToPutIn h image ws → vs ≡ ws
 one_log h image vs ws (inl a) (inl b) = a.1 ∙ sym b.1

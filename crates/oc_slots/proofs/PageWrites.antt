@@ -3,7 +3,7 @@ use Rattle.std.proofs.Common.{◌≡◌, ◌∙◌, inl, inr, ℕ, zero, suc, �
 use Rattle.std.proofs.Math.Nat.{mul-add-div_right}
 use Rattle.std.proofs.Math.Seq.{drop-cons}
 use Rattle.std.proofs.lemmas.Bool.{cases_lt}
-use Rattle.std.proofs.lemmas.List.{take-replicate, drop-replicate, drop-append-le, drop-map, length-replicate, get_or_default, get_or-drop, drop_all}
+use Rattle.std.proofs.lemmas.List.{take-replicate, drop-replicate, drop-append-le, drop-map, length-replicate, get_or-drop, drop_all}
 use Rattle.oc_layout.specs.declared.cells.Cell.{Cell}
 use Rattle.oc_layout.specs.declared.cells.Header.{Header}
 use Rattle.oc_layout.specs.declared.cells.Space.TheVariants.{Objects}

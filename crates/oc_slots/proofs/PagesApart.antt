@@ -1,10 +1,8 @@
 -- Pages that own blocks of their own have no byte in common.
-use Rattle.std.proofs.Common.{◌≡◌, ◌∙◌, inl, inr, ℕ, zero, suc, ◌+◌, ◌*◌, ◌<◌, ◌≤◌, cond, List, [], ◌∷◌, ◌++◌, length, get_or, sym, ap, subst, arith}
-use Rattle.std.specs.Prelude.{All, AllPairs, not, filter}
-use Rattle.std.proofs.lemmas.List.Elements.{All-cons}
+use Rattle.std.proofs.Common.{inl, inr, ℕ, zero, suc, ◌<◌, ◌≤◌, cond, List, [], ◌∷◌, length, get_or, arith}
+use Rattle.std.specs.Prelude.{AllPairs, not, filter}
 use Rattle.std.proofs.lemmas.List.Sums.{sum_by-cons, sum_by-append}
 use Rattle.oc_layout.specs.declared.cells.Cell.{Cell}
-use Rattle.oc_layout.specs.Layout.{blocks}
 use Rattle.oc_pages.specs.declared.page.Page.{Page}
 use Rattle.oc_pages.specs.Chains.{AreApart}
 use Rattle.oc_pages.specs.Pages.{is_empty, place_of, things_in, things_of}

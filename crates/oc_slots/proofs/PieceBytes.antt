@@ -1,6 +1,6 @@
 -- Pieces of slots that share no block: what they are written beside, and that each slot has its bytes then.
-use Rattle.std.proofs.Common.{◌≡◌, ◌∙◌, ◌⊎◌, inl, inr, ℕ, zero, suc, ◌+◌, ◌-◌, ◌*◌, ◌<◌, ◌≤◌, max, Bool, true, false, leb, ltb, List, [], ◌∷◌, ◌++◌, length, replicate, take, drop, get_or, Option, Some, None, sym, ap, subst, subst₂, refl, arith, length-append}
-use Rattle.std.specs.Prelude.{All, AllPairs, nat_lt, ◌==◌, if◌then◌else◌}
+use Rattle.std.proofs.Common.{◌≡◌, ◌∙◌, ◌⊎◌, inl, inr, ℕ, suc, ◌+◌, ◌-◌, ◌*◌, ◌<◌, ◌≤◌, max, true, false, List, [], ◌∷◌, length, replicate, get_or, Option, Some, None, ap, subst, refl, arith, length-append}
+use Rattle.std.specs.Prelude.{All, AllPairs, nat_lt, ◌==◌}
 use Rattle.std.proofs.lemmas.Bool.{cases_lt, cases_eq}
 use Rattle.std.proofs.lemmas.List.{length-replicate}
 use Rattle.std.proofs.lemmas.List.Elements.{All-cons}

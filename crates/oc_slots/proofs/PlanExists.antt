@@ -22,7 +22,7 @@ use Rattle.oc_slots.specs.Slots.{Changes, changes_of, lengths_of}
 use Rattle.oc_slots.specs.Pointings.{is_pointed, AreDistinct}
 use Rattle.oc_slots.specs.Turnovers.{numbers_in, slot_at}
 use Rattle.oc_slots.specs.Planning.{AreLengths, moves, log_length}
-use Rattle.oc_slots.proofs.TurnoverCounts.{same_itself, same_slot, flipped}
+use Rattle.oc_slots.proofs.SameSlots.{same_itself, same_slot, flipped}
 
 no_way : false ≡ true → ⊥
 no_way e = cc

@@ -22,9 +22,9 @@ use Rattle.oc_slots.specs.Pointings.{cells_in}
 use Rattle.oc_slots.specs.Turnovers.{IsTurnover}
 use Rattle.oc_slots.specs.Planning.{AreSlotsPlaced}
 use Rattle.oc_slots.proofs.Apart.{beside_first, ends_before}
-use Rattle.oc_slots.proofs.Noted.{left_of, right_of, owners_append}
+use Rattle.oc_slots.proofs.Noted.{owners_append}
 use Rattle.oc_slots.proofs.PagesApart.{pages_apart}
-use Rattle.oc_slots.proofs.Things.{tail_of, of_pages}
+use Rattle.oc_slots.proofs.Things.{tail_of, of_pages, left_of, right_of}
 use Rattle.oc_slots.proofs.Tilings.{tiles_within, each_once}
 
 -- a list has as many elements as ones

@@ -1,9 +1,10 @@
 -- Which slots move, by the changes and by what is placed of them.
-use Rattle.std.proofs.Common.{◌≡◌, ◌∙◌, ℕ, suc, ◌+◌, ◌&&◌, ◌||◌, nat_eq, Bool, true, false, List, [], ◌∷◌, map, Option, Some, None, sym, ap, refl, arith}
+use Rattle.std.proofs.Common.{◌≡◌, ◌∙◌, ◌⊎◌, inl, inr, ℕ, suc, ◌+◌, ◌≤◌, ◌&&◌, ◌||◌, nat_eq, Bool, true, false, List, [], ◌∷◌, length, map, Option, Some, None, sym, ap, subst, refl, arith}
 use Rattle.std.specs.Prelude.{All, AllPairs, is_some, sum_by}
 use Rattle.std.specs.List.{list_any}
 use Rattle.std.specs.Map.{lookup}
 use Rattle.std.specs.Option.{option_map, option_map_or}
+use Rattle.std.proofs.lemmas.Bool.{cases_Bool}
 use Rattle.oc_layout.specs.declared.cells.Cell.{Cell}
 use Rattle.oc_layout.specs.declared.cells.Space as spaces
 use Rattle.oc_pages.specs.declared.page.Page.{Page}
@@ -14,22 +15,22 @@ use Rattle.oc_slots.specs.declared.placed.PlacedChange.{PlacedChange}
 use Rattle.oc_slots.specs.declared.slot.SlotChange.{SlotChange}
 use Rattle.oc_slots.specs.declared.slot.SlotId.{SlotId}
 use Rattle.oc_slots.specs.declared.turnover.Pointing.{Pointing}
-use Rattle.oc_slots.specs.Maps.{is_same}
+use Rattle.oc_slots.specs.Maps.{has_after, is_same}
 use Rattle.oc_slots.specs.Slots.{changes_of, change_of, cells_of, lengths_of}
-use Rattle.oc_slots.specs.Pointings.{replaced}
+use Rattle.oc_slots.specs.Pointings.{is_pointed, replaced}
 use Rattle.oc_slots.specs.Noting.{place_in, placed_place}
 use Rattle.oc_slots.specs.Turnovers.{is_moved, IsTurnover}
-use Rattle.oc_slots.specs.Planning.{has_after, moves}
+use Rattle.oc_slots.specs.Planning.{moves}
 use Rattle.oc_slots.proofs.SessionChange.{fresh_same}
-use Rattle.oc_slots.proofs.TurnoverCounts.{differs, same_itself}
+use Rattle.oc_slots.proofs.SameSlots.{clash, same_itself, same_slot}
 
 -- a change is placed where it is made
-named_same : (ps : List PlacedChange) (id : SlotId) → list_any (λ p. is_same p.id id) ps ≡ list_any (λ c. is_same c.id id) (map change_of ps)
+pub named_same : (ps : List PlacedChange) (id : SlotId) → list_any (λ p. is_same p.id id) ps ≡ list_any (λ c. is_same c.id id) (map change_of ps)
 named_same [] id = refl
 named_same (p ∷ ps) id = ap (λ b. is_same p.id id || b) (named_same ps id)
 
 -- and the slot is there then if it has bytes
-there_same : (ps : List PlacedChange) (id : SlotId) (base : Option Cell) → is_some (placed_place ps id base) ≡ has_after (map change_of ps) id (is_some base)
+pub there_same : (ps : List PlacedChange) (id : SlotId) (base : Option Cell) → is_some (placed_place ps id base) ≡ has_after (map change_of ps) id (is_some base)
 there_same [] id base = refl
 there_same (p ∷ ps) id base = go (is_same p.id id) refl (there_same ps id base)
   where
@@ -65,62 +66,46 @@ turned_same unit pages o p placed ps freed same t = record {
   were = t.were;
 }
 
--- where no slot that is named is there then, nothing is to be placed
-pub nothing_placed : (cs : List SlotChange) (was : SlotId → Bool) → AllPairs (λ a b. is_same a.id b.id ≡ false) cs → ((id : SlotId) → list_any (λ c. is_same c.id id) cs ≡ true → has_after cs id (was id) ≡ false) → lengths_of cs ≡ []
-nothing_placed [] was distinct none = refl
-nothing_placed (c ∷ cs) was distinct none = gone c.bytes refl (nothing_placed cs was (λ i j d lt inside. distinct (suc i) (suc j) d (omega (arith, lt)) (omega (arith, inside))) later)
+-- one of the changes is of this slot, and it is there then
+pub record IsBrought (cs : List SlotChange) (id : SlotId) : Type 0 where
+  pub named : list_any (λ c. is_same c.id id) cs ≡ true
+  pub there : (was : Bool) → has_after cs id was ≡ true
+
+-- a change of another slot leaves it so
+brought_on : (c : SlotChange) (cs : List SlotChange) (id : SlotId) → is_same c.id id ≡ false → IsBrought cs id → IsBrought (c ∷ cs) id
+brought_on c cs id other b = record { named = ap (λ t. t || list_any (λ x. is_same x.id id) cs) other ∙ b.named; there = λ was. rw other (b.there was) }
+
+-- nothing is to be placed, or one of the slots is there then
+pub placed_or_none : (cs : List SlotChange) → AllPairs (λ a b. is_same a.id b.id ≡ false) cs → (lengths_of cs ≡ []) ⊎ ((id : SlotId) × IsBrought cs id)
+placed_or_none [] distinct = inl refl
+placed_or_none (c ∷ cs) distinct = go c.bytes refl (placed_or_none cs (λ i j d lt inside. distinct (suc i) (suc j) d (omega (arith, lt)) (omega (arith, inside))))
   where
-    named : list_any (λ x. is_same x.id c.id) (c ∷ cs) ≡ true
-    named = rw (same_itself c.id) refl
-
-    here : has_after (c ∷ cs) c.id (was c.id) ≡ is_some c.bytes
-    here = rw (same_itself c.id) refl
-
-    empty : is_some c.bytes ≡ false
-    empty = sym here ∙ none c.id named
-
-    gone : (o : Option (List ℕ)) → c.bytes ≡ o → lengths_of cs ≡ [] → lengths_of (c ∷ cs) ≡ []
-    gone None e rest = rw e rest
-    gone (Some b) e rest = absurd (clash (sym empty ∙ ap is_some e))
-      where
-        clash : false ≡ true → ⊥
-        clash e = cc
-
     -- a later change is of another slot
     other : (ds : List SlotChange) (id : SlotId) → All (λ x. is_same c.id x.id ≡ false) ds → list_any (λ x. is_same x.id id) ds ≡ true → is_same c.id id ≡ false
-    other ds id apart there = by_test (is_same c.id id) refl
-      where
-        no_one : (ds : List SlotChange) → is_same c.id id ≡ true → All (λ x. is_same c.id x.id ≡ false) ds → list_any (λ x. is_same x.id id) ds ≡ false
-        no_one [] same apart = refl
-        no_one (x ∷ xs) same apart = rw (differs c.id x.id id (apart 0 x (omega arith)) same) (no_one xs same (λ k d lt. apart (suc k) d (omega (arith, lt))))
+    other [] id apart there = absurd (clash there)
+    other (x ∷ xs) id apart there = elim (cases_Bool (is_same x.id id)) [
+      | inl here ↦ subst (λ y. is_same c.id y ≡ false) (same_slot x.id id here) (apart 0 x (omega arith))
+      | inr not ↦ other xs id (λ k d lt. apart (suc k) d (omega (arith, lt))) (sym (ap (λ t. t || list_any (λ y. is_same y.id id) xs) not) ∙ there)
+    ]
 
-        by_test : (b : Bool) → is_same c.id id ≡ b → is_same c.id id ≡ false
-        by_test false e = e
-        by_test true e = absurd (clash (sym (no_one ds e apart) ∙ there))
-          where
-            clash : false ≡ true → ⊥
-            clash e = cc
+    go : (o : Option (List ℕ)) → c.bytes ≡ o → (lengths_of cs ≡ []) ⊎ ((id : SlotId) × IsBrought cs id) → (lengths_of (c ∷ cs) ≡ []) ⊎ ((id : SlotId) × IsBrought (c ∷ cs) id)
+    go None e (inl none) = inl (rw e none)
+    go None e (inr some) = inr (some.0, brought_on c cs some.0 (other cs some.0 (λ k d lt. distinct 0 (suc k) d (omega arith) (omega (arith, lt))) some.1.named) some.1)
+    go (Some b) e rest = inr (c.id, record { named = ap (λ t. t || list_any (λ x. is_same x.id c.id) cs) (same_itself c.id); there = λ was. rw (same_itself c.id) (ap is_some e) })
 
-    later : (id : SlotId) → list_any (λ x. is_same x.id id) cs ≡ true → has_after cs id (was id) ≡ false
-    later id there =
-        let apart = other cs id (λ k d lt. distinct 0 (suc k) d (omega arith) (omega (arith, lt))) there in
-        sym (skips apart) ∙ none id (either there)
-      where
-        skips : is_same c.id id ≡ false → has_after (c ∷ cs) id (was id) ≡ has_after cs id (was id)
-        skips e = rw e refl
-
-        either : list_any (λ x. is_same x.id id) cs ≡ true → list_any (λ x. is_same x.id id) (c ∷ cs) ≡ true
-        either e = by (is_same c.id id)
-          where
-            by : (b : Bool) → (b || list_any (λ x. is_same x.id id) cs) ≡ true
-            by true = refl
-            by false = e
+-- so it moves
+pub brought_moves : (pages : List Page) (o : Overlay) (last : List SlotChange) (id : SlotId) → IsBrought last id → moves pages o last id ≡ true
+brought_moves pages o last id b i =
+    (b.named i || is_some (lookup (nat_eq id.number) (changes_of o id.space))) && (b.there (is_some (place_in pages o id)) i || is_some (pointer_of pages id.space id.number))
 
 -- where no slot moves, nothing is to be placed
 pub nothing_moves : (pages : List Page) (o : Overlay) (last : List SlotChange) → AllPairs (λ a b. is_same a.id b.id ≡ false) last → ((id : SlotId) → moves pages o last id ≡ false) → lengths_of last ≡ []
-nothing_moves pages o last distinct none = nothing_placed last (λ id. is_some (place_in pages o id)) distinct (λ id there. first_of _ _ _ _ there (none id))
-  where
-    first_of : (a b x y : Bool) → a ≡ true → ((a || b) && (x || y)) ≡ false → x ≡ false
-    first_of true b true y e none = absurd (cc none)
-    first_of true b false y e none = refl
-    first_of false b x y e none = absurd (cc e)
+nothing_moves pages o last distinct none = elim (placed_or_none last distinct) [
+  | inl nothing ↦ nothing
+  | inr some ↦ absurd (clash (sym (none some.0) ∙ brought_moves pages o last some.0 some.1))
+]
+
+-- where slots are pointed that move, one moves
+pub one_moves : (ps : List Pointing) (moved : SlotId → Bool) → 1 ≤ length ps → ((id : SlotId) → is_pointed ps id ≡ moved id) → (id : SlotId) × (moved id ≡ true)
+one_moves [] moved some same = absurd (omega (arith, some))
+one_moves (x ∷ xs) moved some same = (x.id, sym (same x.id) ∙ ap (λ t. t || list_any (λ p. is_same p.id x.id) xs) (same_itself x.id))

@@ -1,5 +1,5 @@
 -- The steps of a commit's plan: what each gives for the next.
-use Rattle.std.proofs.Common.{◌≡◌, ◌∙◌, inl, inr, ℕ, ◌+◌, ◌*◌, ◌≤◌, max, false, cond, leb, List, [], ◌∷◌, ◌++◌, length, map, None, sym, ap, subst, subst₂, refl, arith}
+use Rattle.std.proofs.Common.{◌≡◌, ◌∙◌, inl, inr, ℕ, ◌+◌, ◌≤◌, false, cond, leb, List, [], ◌∷◌, ◌++◌, length, map, None, sym, ap, subst, subst₂, arith}
 use Rattle.std.specs.Prelude.{All}
 use Rattle.std.proofs.lemmas.Bool.{cases_lt}
 use Rattle.std.proofs.lemmas.Bool.Decides.{nat_tests}
@@ -15,14 +15,13 @@ use Rattle.oc_room.specs.Rooms.{Space, Placed, IsRoom, GoesBack, AreInOrder, ope
 use Rattle.oc_room.proofs.Orders.{order_append, lacking_behind, lacking_anew, end_anew, placed_behind}
 use Rattle.oc_slots.specs.declared.commit_plan.CommitPlan.{CommitPlan}
 use Rattle.oc_slots.specs.declared.overlay.Overlay.{Overlay}
-use Rattle.oc_slots.specs.declared.placed.Slot.{Slot}
 use Rattle.oc_slots.specs.declared.placed.PlacedChange.{PlacedChange}
 use Rattle.oc_slots.specs.declared.run.Planned.{Planned}
 use Rattle.oc_slots.specs.declared.slot.SlotChange.{SlotChange}
 use Rattle.oc_slots.specs.declared.slot.SlotId.{SlotId}
 use Rattle.oc_slots.specs.Slots.{change_of, changes_of, slots_of, cells_of, lengths_of}
 use Rattle.oc_slots.specs.Stores.{AreChanges, AreNumbers, IsWhole}
-use Rattle.oc_slots.specs.Pieces.{IsPlanned, end_of, end_after}
+use Rattle.oc_slots.specs.Pieces.{IsPlanned}
 use Rattle.oc_slots.specs.Turnovers.{places_of, is_moved, IsTurnover}
 use Rattle.oc_slots.specs.Planning.{AreLengths, AreSlotsPlaced, IsPlan, IsRest, moves, end_over}
 use Rattle.oc_slots.proofs.Noted.{few_noted, owners_append}
@@ -30,18 +29,7 @@ use Rattle.oc_slots.proofs.PlanMoves.{moved_is, turned_same}
 use Rattle.oc_slots.proofs.SessionChange.{tiled, all_some, numbers_of}
 use Rattle.oc_slots.proofs.SessionMap.{distinct_of}
 use Rattle.oc_slots.proofs.SessionSteps.{IsPlaced, ready}
-use Rattle.oc_slots.proofs.Things.{tail_of}
-
--- the file ends where the slots are written to
-end_slots : (unit len : ℕ) (ss : List Slot) → All (λ s. s.cell.len ≡ length s.bytes) ss → end_after unit len ss ≡ end_over unit len (map (λ (s : Slot). s.cell) ss)
-end_slots unit len [] sizes = refl
-end_slots unit len (s ∷ ss) sizes =
-    end_slots unit (max len (end_of unit s)) ss (tail_of (λ s. s.cell.len ≡ length s.bytes) s ss sizes)
-    ∙ ap (λ n. end_over unit (max len (s.cell.at * unit + n)) (map (λ (x : Slot). x.cell) ss)) (sym (sizes 0 s (omega arith)))
-
-end_append : (unit len : ℕ) (xs ys : List Cell) → end_over unit len (xs ++ ys) ≡ end_over unit (end_over unit len xs) ys
-end_append unit len [] ys = refl
-end_append unit len (x ∷ xs) ys = end_append unit (max len (x.at * unit + x.len)) xs ys
+use Rattle.oc_slots.proofs.InOrder.{after_over, over_append}
 
 -- the changes are placed
 pub placed_so : (h : Header) (pages : Paged) (o p : Overlay) (room r : Space) (fresh len : ℕ) (last : List SlotChange) (ps : List PlacedChange) (planned : Planned) (unit : ℕ) → IsWhole h pages o room fresh len → AreChanges last
@@ -150,8 +138,8 @@ module _ (h : Header) (pages : Paged) (o p : Overlay) (room r : Space) (fresh le
     ends : plan.end ≡ end_over (unit_of h) len (cells_of ps ++ (places_of plan.added.items ++ plan.place ∷ []))
     ends =
         rest.end
-        ∙ ap (λ n. end_over (unit_of h) n (places_of plan.added.items ++ plan.place ∷ [])) (f.plan.end ∙ end_slots (unit_of h) len (slots_of ps) f.sizes)
-        ∙ sym (end_append (unit_of h) len (cells_of ps) (places_of plan.added.items ++ plan.place ∷ []))
+        ∙ ap (λ n. end_over (unit_of h) n (places_of plan.added.items ++ plan.place ∷ [])) (f.plan.end ∙ after_over (unit_of h) len (slots_of ps) f.sizes)
+        ∙ sym (over_append (unit_of h) len (cells_of ps) (places_of plan.added.items ++ plan.place ∷ []))
 
     in_order : AreInOrder room.unit room.end (cells_of ps ++ (places_of plan.added.items ++ plan.place ∷ [])) t.end
     in_order = order_append room.unit room.end r.end t.end (cells_of ps) (places_of plan.added.items ++ plan.place ∷ []) order (subst (λ u. AreInOrder u r.end (places_of plan.added.items ++ plan.place ∷ []) t.end) f.unit rest.order)

@@ -1,10 +1,10 @@
 -- The pieces of slots, as the list of slots grows at its end.
-use Rattle.std.proofs.Common.{Vec, Global, ◌≡◌, ◌∙◌, ℕ, ◌+◌, ◌-◌, ◌*◌, max, List, [], ◌∷◌, ◌++◌, length, replicate, Option, Some, None, sym, ap, subst, refl}
+use Rattle.std.proofs.Common.{Vec, Global, ◌≡◌, ◌∙◌, ℕ, max, List, [], ◌∷◌, ◌++◌, Option, Some, None, sym, ap, subst, refl}
 use Rattle.oc_layout.specs.declared.cells.Cell.{Cell}
 use Rattle.oc_slots.specs.declared.placed.Slot.{Slot}
 use Rattle.oc_slots.specs.declared.run.Run.{Run}
 use Rattle.oc_slots.specs.declared.run.Planned.{Planned}
-use Rattle.oc_slots.specs.Pieces.{Piece, as_pieces, from, end_of, piece_of, pieces_of, end_after, last_after, AreJoined, IsPlanned}
+use Rattle.oc_slots.specs.Pieces.{Piece, as_pieces, end_of, piece_of, pieces_of, end_after, last_after, AreJoined, IsPlanned}
 
 pub pieces_last : (unit len : ℕ) (before : Option Cell) (ss : List Slot) (s : Slot) → pieces_of unit len before (ss ++ s ∷ []) ≡ pieces_of unit len before ss ++ piece_of unit (end_after unit len ss) (last_after before ss) s ∷ []
 pieces_last unit len before [] s = refl

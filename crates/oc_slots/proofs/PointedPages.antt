@@ -3,7 +3,6 @@ use Rattle.std.proofs.Common.{◌≡◌, ◌∙◌, inl, inr, ℕ, suc, ◌+◌,
 use Rattle.std.specs.Prelude.{All, AllPairs, IsSome, sum_by, if◌then◌else◌}
 use Rattle.std.specs.Option.{option_map, option_to_list}
 use Rattle.std.proofs.lemmas.Bool.{cases_Bool}
-use Rattle.std.proofs.lemmas.Bool.Decides.{nat_tests}
 use Rattle.std.proofs.lemmas.List.Sums.{sum_by-append}
 use Rattle.std.proofs.lemmas.List.{get_or-map, length-map}
 use Rattle.oc_layout.specs.declared.cells.Space.{Space}
@@ -24,6 +23,7 @@ use Rattle.oc_slots.specs.Pointings.{set_all, writes_of, AreAt, AreHeld, AreDist
 use Rattle.oc_slots.specs.declared.slot.SlotId.{SlotId}
 use Rattle.oc_slots.specs.Maps.{is_same}
 use Rattle.oc_slots.proofs.Things.{tail_of}
+use Rattle.oc_slots.proofs.SameSlots.{is_true, same_true, clash}
 
 -- where a page is, and which, stays
 same_page : (p : Pointing) (q : Page) → ((with_cell p.id.space p.id.number p.cell q).at ≡ q.at) × ((with_cell p.id.space p.id.number p.cell q).space ≡ q.space) × ((with_cell p.id.space p.id.number p.cell q).index ≡ q.index)
@@ -93,15 +93,6 @@ distinct_all [] pages distinct = distinct
 distinct_all (p ∷ ps) pages distinct = distinct_all ps (with_pointer p.id.space p.id.number p.cell pages) (distinct_set p pages distinct)
 
 -- ---- the pointers then
-
-is_true : (a b : SlotId) → is_same a b ≡ true → (space_number a.space ≡ space_number b.space) × (a.number ≡ b.number)
-is_true a b e = (grind (arith, nat_tests, e), grind (arith, nat_tests, e))
-
-same_true : (a b : SlotId) → space_number a.space ≡ space_number b.space → a.number ≡ b.number → is_same a b ≡ true
-same_true a b s n = grind (arith, nat_tests, s, n)
-
-clash : false ≡ true → ⊥
-clash e = cc
 
 pub held_set : (p : Pointing) (pages : List Page) (ps : List Pointing) → AreHeld pages ps → AreHeld (with_pointer p.id.space p.id.number p.cell pages) ps
 held_set p pages ps held k d lt = subst IsSome (sym (holder_set p.id.space (get_or ps k d).id.space p.id.number (get_or ps k d).id.number p.cell pages)) (still (page_holding pages (get_or ps k d).id.space (get_or ps k d).id.number) (held k d lt))

@@ -24,18 +24,20 @@ use Rattle.oc_pages.specs.Chains.{HasPages}
 use Rattle.oc_room.specs.Rooms.{owns, owners}
 use Rattle.oc_slots.specs.Attaching.{IsJudged, SuitsTarget, StillGives, with_cells, with_closed}
 use Rattle.oc_slots.specs.Commits.{IsCommit}
-use Rattle.oc_slots.specs.Forms.{LiesIn, HasForm, Gives, IsOwn, header_cell, log_things, root_place}
+use Rattle.oc_slots.specs.Forms.{LiesIn, HasForm, Gives, GivesFrom, IsOwn, header_cell, log_things, root_place}
 use Rattle.oc_slots.specs.Held.{IsBeside, Holds, map_of}
 use Rattle.oc_slots.specs.Maps.{SlotMap, Same, content}
 use Rattle.oc_slots.specs.Slots.{places_in}
 use Rattle.oc_slots.specs.Stores.{Slots, Agrees, AreRead}
-use Rattle.oc_slots.proofs.Changed.{unit_same, room_same, wide_same, root_same, begins_changed, first_page_same}
+use Rattle.oc_slots.proofs.Changed.{first_number_same, unit_same, room_same, wide_same, root_same, begins_changed, first_page_same}
 use Rattle.oc_slots.proofs.Committing.{gives_new}
 use Rattle.oc_slots.proofs.Formed.{formed_holds}
 use Rattle.oc_slots.proofs.FormParts.{root_at, cells_kept, fields_with, form_front, form_things, suits}
 use Rattle.oc_slots.proofs.FormParts as parts
+use Rattle.oc_slots.proofs.Fronts.{one_header, some_same}
 use Rattle.oc_slots.proofs.Grounds.{a_log}
 use Rattle.oc_slots.proofs.Headers.{unit_some, number_same, cell_same}
+use Rattle.oc_slots.proofs.HeldGives.{gives_same}
 use Rattle.oc_slots.proofs.OneMap.{one_map}
 use Rattle.oc_slots.proofs.Things.{IsAlike, slots_alike, pages_alike}
 
@@ -44,9 +46,6 @@ abbrev rest_disk : List ℕ → List ℕ → Disk
 rest_disk bytes said = record { bytes = bytes; synced = bytes; spans = []; top = length bytes; said = said; past = [] }
 
 -- ---- maps that are the same
-
-pub gives_same : (image : List ℕ) (m n : SlotMap) → Gives image m → Same m n → Gives image n
-gives_same image m n gives same = record { header = gives.header; writes = gives.writes; pages = gives.pages; form = gives.form; slots = λ id. sym (same id) ∙ gives.slots id }
 
 pub form_gives : (h : Header) (ws : List CellWrite) (pages : List Page) (b : List ℕ) → HasForm h ws pages b → Gives b (λ id. content (unit_of h) (put_cells ws b) (pointer_of pages id.space id.number))
 form_gives h ws pages b form = record { header = h; writes = ws; pages = pages; form = form; slots = λ id. refl }
@@ -141,9 +140,6 @@ module _ (h : Header) (ws : List CellWrite) (s : Slots) (b : List ℕ) (is : IsJ
       cell = ap (λ l. first_cell (slice 32 8 l)) file ∙ has.cell;
       targets = λ vs e. subst₂ (λ n l. AreTargets h n l) (ap length (sym file)) (some_same ws vs (sym open_log ∙ ap (open_writes h) (sym file) ∙ e)) has.targets;
     }
-      where
-        some_same : (xs ys : List CellWrite) → Some xs ≡ Some ys → xs ≡ ys
-        some_same xs ys e = cc
 
     -- the file with the cells put in, and that with a closed gate
     size_put : length (put_cells ws b) ≡ length b
@@ -308,12 +304,19 @@ module _ (h : Header) (ws : List CellWrite) (s : Slots) (b : List ℕ) (is : IsJ
     pub still_gives : (d : Disk) (image said : List ℕ) → d.bytes ≡ b → Recovers h d image said → StillGives d image said
     still_gives d image said file r = record {
       told = r.told;
-      gives = λ m gives. gives_same image (map_of (fields (over 64 (0 ∷ []) (put_cells ws b))) s.pages (put_cells ws (over 64 (0 ∷ []) (put_cells ws b)))) m
-          (gives_new (fields (over 64 (0 ∷ []) (put_cells ws b))) s.pages s.pages (rest_disk (over 64 (0 ∷ []) (put_cells ws b)) said) (holds said) h.log ws (commit said) image said all)
-          (λ id. ap (λ l. map_of (fields (over 64 (0 ∷ []) (put_cells ws b))) s.pages l id) done ∙ map_after id
-          ∙ one_map b (λ j. content (unit_of h) (put_cells ws b) (pointer_of s.pages j.space j.number)) m (form_gives h ws s.pages b form) (subst (λ l. Gives l m) file gives) id);
+      gives = λ first m from. let of_file : GivesFrom first b m = subst (λ l. GivesFrom first l m) file from in
+          gives_same first image m (map_of (fields (over 64 (0 ∷ []) (put_cells ws b))) s.pages (put_cells ws (over 64 (0 ∷ []) (put_cells ws b))))
+          (λ id. sym (ap (λ l. map_of (fields (over 64 (0 ∷ []) (put_cells ws b))) s.pages l id) done ∙ map_after id
+          ∙ one_map b (λ j. content (unit_of h) (put_cells ws b) (pointer_of s.pages j.space j.number)) m (form_gives h ws s.pages b form) of_file.gives id))
+          (subst (λ n. GivesFrom n image (map_of (fields (over 64 (0 ∷ []) (put_cells ws b))) s.pages (put_cells ws (over 64 (0 ∷ []) (put_cells ws b))))) (number_is first m of_file)
+          (gives_new (fields (over 64 (0 ∷ []) (put_cells ws b))) s.pages s.pages (rest_disk (over 64 (0 ∷ []) (put_cells ws b)) said) (holds said) h.log ws (commit said) image said all));
     }
       where
+        number_is : (first : ℕ) (m : SlotMap) → GivesFrom first b m → (fields (over 64 (0 ∷ []) (put_cells ws b))).first ≡ first
+        number_is first m from =
+            first_number_same h b (over 64 (0 ∷ []) (put_cells ws b)) form.header long raw
+            ∙ ap (λ (x : Header). x.first) (one_header b h (from.gives).header form.header (from.gives).form.header) ∙ from.is_first
+
         reads : settled (with_log (fields (over 64 (0 ∷ []) (put_cells ws b))) h.log) image ≡ settled h image
         reads = settled_alike (with_log (fields (over 64 (0 ∷ []) (put_cells ws b))) h.log) h unit wide image
 

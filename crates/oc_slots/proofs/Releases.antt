@@ -1,8 +1,8 @@
 -- Cells that are given back one after another.
-use Rattle.std.proofs.Common.{◌≡◌, ◌∙◌, ℕ, suc, ◌+◌, ◌≤◌, ◌<◌, cond, true, List, [], ◌∷◌, ◌++◌, length, drop, get_or, Option, None, sym, ap, subst, refl, arith, length-append}
+use Rattle.std.proofs.Common.{◌≡◌, ◌∙◌, ℕ, suc, ◌+◌, ◌≤◌, ◌<◌, cond, true, List, [], ◌∷◌, ◌++◌, length, drop, get_or, None, sym, ap, subst, arith, length-append}
 use Rattle.std.specs.Prelude.{All}
 use Rattle.std.proofs.Math.Seq.{drop-cons}
-use Rattle.std.proofs.lemmas.List.{drop_all, get_or_default}
+use Rattle.std.proofs.lemmas.List.{drop_all}
 use Rattle.std.proofs.lemmas.List.Sums.{sum_by-cons}
 use Rattle.oc_layout.specs.declared.cells.Cell.{Cell}
 use Rattle.oc_layout.specs.Layout.{blocks}
@@ -10,7 +10,8 @@ use Rattle.oc_free.specs.FreeParts.{free_at}
 use Rattle.oc_room.specs.Rooms.{Space, IsRoom, owns, owners}
 use Rattle.oc_slots.specs.Slots.{Changes, cell_list, places_in}
 use Rattle.oc_slots.specs.Noting.{GoFree}
-use Rattle.oc_slots.proofs.Noted.{left_of, right_of, owners_append}
+use Rattle.oc_slots.proofs.Things.{left_of, right_of}
+use Rattle.oc_slots.proofs.Noted.{owners_append}
 
 pub free_front : (room : Space) (here more : List Cell) → GoFree room (here ++ more) → GoFree room here
 free_front room here more is = record {

@@ -1,5 +1,5 @@
 -- What a rollback gives back, and that the parts of the store stay together.
-use Rattle.std.proofs.Common.{◌≡◌, ◌∙◌, ℕ, ◌+◌, ◌≤◌, ◌<◌, List, [], ◌∷◌, ◌++◌, length, sym, ap, subst, refl, arith, append-nil}
+use Rattle.std.proofs.Common.{◌≡◌, ◌∙◌, ℕ, ◌+◌, ◌≤◌, List, [], ◌∷◌, ◌++◌, length, sym, ap, subst, arith, append-nil}
 use Rattle.std.specs.Prelude.{All}
 use Rattle.oc_layout.specs.declared.cells.Cell.{Cell}
 use Rattle.oc_layout.specs.declared.cells.Header.{Header}
@@ -14,7 +14,8 @@ use Rattle.oc_slots.specs.Forms.{header_cell}
 use Rattle.oc_slots.specs.Slots.{changes_of, places_in}
 use Rattle.oc_slots.specs.Stores.{IsWhole, AreNumbers, fresh_of}
 use Rattle.oc_slots.specs.Noting.{GoFree}
-use Rattle.oc_slots.proofs.Noted.{left_of, right_of, owners_append}
+use Rattle.oc_slots.proofs.Things.{left_of, right_of}
+use Rattle.oc_slots.proofs.Noted.{owners_append}
 use Rattle.oc_slots.proofs.Tilings.{tiles_within, each_once}
 
 module _ (h : Header) (pages : Paged) (o : Overlay) (room : Space) (fresh len : ℕ) (whole : IsWhole h pages o room fresh len) where

@@ -1,25 +1,19 @@
 -- Runs that are written one after another beside what is held.
-use Rattle.std.proofs.Common.{◌≡◌, ◌∙◌, inl, inr, ℕ, zero, suc, ◌+◌, ◌≤◌, ◌<◌, List, [], ◌∷◌, ◌++◌, length, take, drop, get_or, map, max, Result, Ok, Err, append-nil, sym, ap, subst, refl, arith}
-use Rattle.std.specs.Prelude.{All}
+use Rattle.std.proofs.Common.{◌≡◌, ◌∙◌, ℕ, zero, suc, ◌+◌, ◌≤◌, ◌<◌, List, [], ◌∷◌, ◌++◌, length, take, drop, get_or, map, Result, Ok, append-nil, sym, ap, subst, refl, arith}
 use Rattle.std.proofs.Math.Seq.{drop-cons}
 use Rattle.std.proofs.lemmas.List.{drop-map, get_or-map, length-map}
 use Rattle.oc_layout.specs.declared.cells.Header.{Header}
 use Rattle.oc_log.proofs.Bytes.{length-over, over_out}
 use Rattle.oc_host.specs.declared.host.Failed.{Failed}
-use Rattle.oc_host.specs.Disk.{Disk, IsDisk, IsImage, AfterWrite, LeavesOnly, writing, wrote, over, now}
+use Rattle.oc_host.specs.Disk.{Disk, IsDisk, IsImage, AfterWrite, LeavesOnly, writing, wrote}
 use Rattle.oc_host.proofs.Moments.{started, writes}
 use Rattle.oc_pages.specs.declared.page.Page.{Page}
 use Rattle.oc_slots.specs.declared.run.Run.{Run}
-use Rattle.oc_slots.specs.Maps.{SlotMap, Same}
-use Rattle.oc_slots.specs.Forms.{Gives}
 use Rattle.oc_slots.specs.Held.{Holds, map_of}
 use Rattle.oc_slots.specs.Pieces.{Piece, as_pieces, over_all, Fit}
 use Rattle.oc_slots.specs.Writing.{IsFree, AreFree, Keeps, Before}
+use Rattle.oc_slots.proofs.HeldGives.{gives_same}
 use Rattle.oc_slots.proofs.Writes.{still_holds, same_map, gives_in_write}
-
--- an image gives any map that is the same
-pub gives_same : (image : List ℕ) (m n : SlotMap) → Same m n → Gives image n → Gives image m
-gives_same image m n same g = record { header = g.header; writes = g.writes; pages = g.pages; form = g.form; slots = λ id. same id ∙ g.slots id }
 
 nothing : (n : ℕ) → take {A = ℕ} n [] ≡ []
 nothing zero = refl
@@ -61,7 +55,7 @@ module _ (pieces rest : List Piece) (p : Piece) (old d : Disk) (written : IsWrit
     in_write : (image said : List ℕ) → IsDisk (wrote p.at p.bytes d) → IsImage (writing p.at (length p.bytes) d) image said → Before h pages old image said
     in_write image said sound im = (
       told_same said d.said im.told ∙ (written.keeps h pages free).said,
-      gives_same image _ _ (λ id. sym ((written.keeps h pages free).same holds id))
+      gives_same h.first image _ _ (λ id. sym ((written.keeps h pages free).same holds id))
           (gives_in_write h pages d held p.at p.bytes written.fit.0 (among h pages free).room (among h pages free).beside sound image said im),
     )
 

@@ -29,11 +29,11 @@ use Rattle.oc_slots.specs.Stores.{fresh_of}
 use Rattle.oc_slots.specs.Noting.{place_in}
 use Rattle.oc_slots.specs.Pieces.{Piece, ShareNone, over_all, Fit, AreBeside, AreJoined, pieces_of, end_of, end_after}
 use Rattle.oc_slots.specs.Writing.{AreFree}
-use Rattle.oc_slots.proofs.Noted.{left_of, right_of, owners_append}
+use Rattle.oc_slots.proofs.Noted.{owners_append}
 use Rattle.oc_slots.proofs.PieceBytes.{pieces_beside, pieces_within, pieces_fit, pieces_length, slots_written, beside_same, end_grows}
 use Rattle.oc_slots.proofs.Sessions.{of_contained}
 use Rattle.oc_slots.proofs.Tilings.{both_apart, pairs_apart}
-use Rattle.oc_slots.proofs.Things.{tail_of, pointed}
+use Rattle.oc_slots.proofs.Things.{tail_of, pointed, left_of, right_of}
 
 module _ (P : Cell → Type 0) where
   pub noted_has : (cs : Changes) (n : ℕ) (base : Option Cell) (c : Cell) → All P (places_in cs) → (base ≡ Some c → P c) → option_map_or (λ x. x) (lookup (nat_eq n) cs) base ≡ Some c → P c

@@ -1,42 +1,39 @@
 -- A change of the session: what is placed, noted and written keeps the parts of the store together.
-use Rattle.std.proofs.Common.{◌≡◌, ◌≢◌, ◌∙◌, inl, inr, ℕ, zero, suc, ◌+◌, ◌-◌, ◌*◌, ◌<◌, ◌≤◌, max, true, false, cond, leb, nat_eq, List, [], ◌∷◌, ◌++◌, length, map, get_or, Option, Some, None, sym, ap, subst, refl, arith, length-append}
-use Rattle.std.specs.Prelude.{All, AllPairs, Contains}
+use Rattle.std.proofs.Common.{◌≡◌, ◌∙◌, inl, inr, ℕ, zero, suc, ◌+◌, ◌-◌, ◌*◌, ◌<◌, ◌≤◌, max, true, false, cond, leb, nat_eq, List, [], ◌∷◌, ◌++◌, length, map, get_or, Option, sym, ap, subst, refl, arith}
+use Rattle.std.specs.Prelude.{All}
 use Rattle.std.specs.Prelude.{◌==◌}
 use Rattle.std.proofs.Math.Nat.{mul-le-mul_right}
 use Rattle.indexmap.specs.IndexMap.{insert_entry}
 use Rattle.std.proofs.lemmas.Bool.{cases_lt}
 use Rattle.std.proofs.lemmas.Bool.Decides.{nat_tests}
-use Rattle.std.proofs.lemmas.List.{append_assoc, get_or_default, get_or-map, length-map}
+use Rattle.std.proofs.lemmas.List.{get_or-map, length-map}
 use Rattle.std.proofs.lemmas.List.Elements.{All-append, All-cons}
 use Rattle.oc_layout.specs.declared.cells.Cell.{Cell}
 use Rattle.oc_layout.specs.declared.cells.Header.{Header}
 use Rattle.oc_layout.specs.declared.cells.Space as spaces
 use Rattle.oc_layout.specs.declared.cells.Space.TheVariants.{Objects, System}
-use Rattle.oc_layout.specs.Layout.{unit_of, room_of, blocks}
+use Rattle.oc_layout.specs.Layout.{unit_of, blocks}
 use Rattle.oc_layout.proofs.Blocks.{blocks_hold}
-use Rattle.oc_host.specs.Disk.{Disk}
 use Rattle.oc_free.specs.FreeParts.{free_at}
-use Rattle.oc_pages.specs.declared.page.Page.{Page}
 use Rattle.oc_pages.specs.Pages.{Paged, space_number, things_of}
 use Rattle.oc_room.specs.Rooms.{Space, Tiles, IsRoom, IsSame, GoesBack, owns, owners, open_at}
-use Rattle.oc_room.proofs.Counting.{no_cell, blocks_least, some_blocks}
+use Rattle.oc_room.proofs.Counting.{no_cell, blocks_least}
 use Rattle.oc_slots.specs.declared.overlay.Overlay.{Overlay}
 use Rattle.oc_slots.specs.declared.placed.Slot.{Slot}
 use Rattle.oc_slots.specs.declared.placed.PlacedChange.{PlacedChange}
-use Rattle.oc_slots.specs.declared.run.Planned.{Planned}
 use Rattle.oc_slots.specs.declared.slot.SlotChange.{SlotChange}
 use Rattle.oc_slots.specs.Forms.{header_cell}
 use Rattle.oc_slots.specs.Slots.{Changes, changes_of, put_change, places_in, change_of, slots_of, cells_of, lengths_of}
 use Rattle.oc_slots.specs.Stores.{fresh_of, AreChanges, AreNumbers, IsWhole}
 use Rattle.oc_slots.specs.Noting.{noted, place_of, IsSession}
-use Rattle.oc_slots.specs.Pieces.{ShareNone, IsPlanned, end_of, end_after}
-use Rattle.oc_slots.proofs.Noted.{each_in, left_of, right_of, owners_append}
+use Rattle.oc_slots.specs.Pieces.{end_of, end_after}
+use Rattle.oc_slots.proofs.Noted.{owners_append}
 use Rattle.oc_slots.proofs.PlacedSlots.{lengths_are}
 use Rattle.oc_slots.proofs.Apart.{ends_before}
 use Rattle.oc_slots.proofs.Headers.{blocks_rise}
 use Rattle.oc_slots.proofs.Placing.{tiles_placed}
 use Rattle.oc_slots.proofs.Tilings.{owner_of, tiles_within, each_once, blocks_reached}
-use Rattle.oc_slots.proofs.Things.{tail_of}
+use Rattle.oc_slots.proofs.Things.{tail_of, left_of, right_of}
 
 -- the session's own slots are the same where the changes are
 pub fresh_same : (o p : Overlay) → ((space : spaces.Space) → changes_of p space ≡ changes_of o space) → fresh_of p ≡ fresh_of o

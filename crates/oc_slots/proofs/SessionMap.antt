@@ -1,9 +1,9 @@
 -- The map of the session once changes are noted.
-use Rattle.std.proofs.Common.{◌≡◌, ◌≢◌, ◌∙◌, inl, inr, ℕ, zero, suc, ◌+◌, ◌<◌, ◌≤◌, Bool, true, false, nat_eq, List, [], ◌∷◌, ◌++◌, length, map, get_or, Option, Some, None, sym, ap, subst, refl, arith}
-use Rattle.std.specs.Prelude.{All, AllPairs, ◌==◌, ◌&&◌, if◌then◌else◌}
+use Rattle.std.proofs.Common.{◌≡◌, ◌≢◌, ◌∙◌, inl, inr, ℕ, suc, Bool, true, false, nat_eq, List, [], ◌∷◌, map, get_or, Option, Some, None, sym, ap, subst, refl, arith}
+use Rattle.std.specs.Prelude.{All, AllPairs, ◌==◌, if◌then◌else◌}
 use Rattle.std.specs.Map.{lookup}
 use Rattle.std.specs.Option.{option_map, option_map_or}
-use Rattle.std.proofs.lemmas.Bool.{cases_Bool, cases_eq}
+use Rattle.std.proofs.lemmas.Bool.{cases_eq}
 use Rattle.std.proofs.lemmas.Bool.Decides.{nat_tests}
 use Rattle.std.proofs.lemmas.List.{get_or-map, length-map}
 use Rattle.indexmap.specs.IndexMap.{insert_entry}
@@ -18,6 +18,7 @@ use Rattle.oc_slots.specs.Maps.{SlotMap, is_same, changed, bytes_at, content}
 use Rattle.oc_slots.specs.Slots.{Changes, put_change, change_of, slots_of}
 use Rattle.oc_slots.specs.Noting.{noted, place_of, placed_place}
 use Rattle.oc_slots.proofs.Things.{tail_of}
+use Rattle.oc_slots.proofs.SameSlots.{is_true, same_true, differs, spaces_same}
 
 -- what is looked up once an entry is put
 lookup_put : (cs : Changes) (m : ℕ) (o : Option Cell) (n : ℕ) → lookup (nat_eq n) (insert_entry nat_eq cs m o) ≡ (if n == m then Some o else lookup (nat_eq n) cs)
@@ -39,25 +40,6 @@ lookup_put (e ∷ es) m o n = elim (cases_eq m e.0) [
         | inr later ↦ let s : nat_eq n e.0 ≡ false = grind (arith, nat_tests, later) in rw s (lookup_put es m o n)
       ])
 ]
-
-pub is_true : (a b : SlotId) → is_same a b ≡ true → (space_number a.space ≡ space_number b.space) × (a.number ≡ b.number)
-is_true a b e = (grind (arith, nat_tests, e), grind (arith, nat_tests, e))
-
-same_true : (a b : SlotId) → space_number a.space ≡ space_number b.space → a.number ≡ b.number → is_same a b ≡ true
-same_true a b s n = grind (arith, nat_tests, s, n)
-
--- what is the one isn't the other
-differs : (p q id : SlotId) → is_same p q ≡ false → is_same p id ≡ true → is_same q id ≡ false
-differs p q id other same = elim (cases_Bool (is_same q id)) [
-  | inl yes_ ↦
-      let a = is_true p id same in
-      let b = is_true q id yes_ in
-      absurd (clash (sym other ∙ same_true p q (a.0 ∙ sym b.0) (a.1 ∙ sym b.1)))
-  | inr no_ ↦ no_
-]
-  where
-    clash : false ≡ true → ⊥
-    clash e = cc
 
 not_there : (ps : List PlacedChange) (id : SlotId) (base : Option Cell) → All (λ p. is_same p.id id ≡ false) ps → placed_place ps id base ≡ base
 not_there [] id base others = refl
@@ -83,6 +65,16 @@ put_other id p o cs other = elim (cases_eq (space_number id.space) (space_number
   where
     clash : false ≡ true → ⊥
     clash e = cc
+
+-- of a space of which no slot is named all stays as it was noted
+pub noted_elsewhere : (ps : List PlacedChange) (space : spaces.Space) (cs : Changes) → All (λ c. c.id.space ≢ space) (map change_of ps) → noted ps space cs ≡ cs
+noted_elsewhere [] space cs others = refl
+noted_elsewhere (p ∷ ps) space cs others =
+    let there : (space_number space == space_number p.id.space) ≡ false = elim (cases_eq (space_number space) (space_number p.id.space)) [
+      | inl here ↦ absurd (others 0 (change_of p) (omega arith) (sym (spaces_same space p.id.space here)))
+      | inr other ↦ grind (arith, nat_tests, other)
+    ] in
+    ap (noted ps space) (rw there refl) ∙ noted_elsewhere ps space cs (tail_of (λ c. c.id.space ≢ space) (change_of p) (map change_of ps) others)
 
 -- the session has a slot where it was placed, and else where it had it before
 pub noted_place : (ps : List PlacedChange) (id : SlotId) (cs : Changes) (base : Option Cell) → AllPairs (λ p q. is_same p.id q.id ≡ false) ps

@@ -1,16 +1,13 @@
 -- The steps of a change: what each gives for the next.
-use Rattle.std.proofs.Common.{◌≡◌, ◌∙◌, nat_eq, subst₂, ℕ, ◌+◌, ◌*◌, ◌<◌, ◌≤◌, List, [], ◌∷◌, ◌++◌, length, map, get_or, sym, ap, subst, refl, arith}
-use Rattle.std.specs.Prelude.{All, Contains}
+use Rattle.std.proofs.Common.{◌≡◌, ◌≢◌, ◌∙◌, subst₂, ℕ, ◌+◌, ◌*◌, ◌<◌, ◌≤◌, List, [], ◌∷◌, ◌++◌, length, map, get_or, sym, ap, subst, refl, arith}
+use Rattle.std.specs.Prelude.{All, Contains, is_some}
 use Rattle.oc_layout.specs.declared.cells.Cell.{Cell}
 use Rattle.oc_layout.specs.declared.cells.Header.{Header}
-use Rattle.std.specs.Map.{lookup}
-use Rattle.std.specs.Option.{option_map_or}
 use Rattle.oc_layout.specs.declared.cells.Space as spaces
-use Rattle.oc_layout.specs.declared.cells.Space.TheVariants.{Objects, System}
 use Rattle.oc_layout.specs.Layout.{unit_of, room_of, blocks}
 use Rattle.oc_host.specs.Disk.{Disk}
 use Rattle.oc_free.specs.FreeParts.{free_at}
-use Rattle.oc_pages.specs.Pages.{Paged, pointer_of, things_of}
+use Rattle.oc_pages.specs.Pages.{Paged, things_of}
 use Rattle.oc_room.specs.Rooms.{Space, IsRoom, GoesBack, owners, open_at}
 use Rattle.oc_room.proofs.Counting.{some_blocks}
 use Rattle.oc_room.proofs.Few.{few}
@@ -20,18 +17,22 @@ use Rattle.oc_slots.specs.declared.placed.PlacedChange.{PlacedChange}
 use Rattle.oc_slots.specs.declared.run.Planned.{Planned}
 use Rattle.oc_slots.specs.declared.slot.SlotChange.{SlotChange}
 use Rattle.oc_slots.specs.declared.slot.SlotId.{SlotId}
-use Rattle.oc_slots.specs.Maps.{Same, changed, content}
+use Rattle.oc_slots.specs.Cached.{Cached}
+use Rattle.oc_slots.specs.Maps.{Same, changed, content, has_after}
 use Rattle.oc_slots.specs.Forms.{LiesIn, header_cell}
 use Rattle.oc_slots.specs.Slots.{changes_of, change_of, slots_of, cells_of}
-use Rattle.oc_slots.specs.Stores.{Slots, Agrees, AreChanges, IsWhole, changes_in, fresh_of, session, parts}
-use Rattle.oc_slots.specs.Noting.{noted, place_in, IsSession}
+use Rattle.oc_slots.specs.Stores.{Slots, Agrees, AreChanges, IsWhole, changes_in, fresh_of, session, session_place, parts}
+use Rattle.oc_slots.specs.Noting.{noted, place_in, placed_place, IsSession}
 use Rattle.oc_slots.specs.Pieces.{as_pieces, over_all, Fit, IsPlanned, end_of, end_after}
 use Rattle.oc_slots.specs.Writing.{AreFree, Keeps}
-use Rattle.oc_slots.proofs.Noted.{right_of, owners_append}
+use Rattle.oc_slots.proofs.Things.{right_of}
+use Rattle.oc_slots.proofs.Noted.{owners_append}
 use Rattle.oc_slots.proofs.Tilings.{tiles_within, each_once}
 use Rattle.oc_slots.proofs.SessionChange.{fresh_same, some_placed, cells_some, session_ready, whole_noted, once, slot_ends, r_unit}
 use Rattle.oc_slots.proofs.SessionBytes.{runs_fit, runs_free, size_after, base_kept, lie_after, slots_have}
-use Rattle.oc_slots.proofs.SessionMap.{noted_place, changed_there, distinct_of}
+use Rattle.oc_slots.proofs.SessionMap.{changed_there, distinct_of, noted_elsewhere}
+use Rattle.oc_slots.proofs.KeptPlaces.{changes_seen, session_is, session_then}
+use Rattle.oc_slots.proofs.PlanMoves.{there_same}
 
 -- the parts of a store that keeps nothing
 abbrev pub seen : Header → Paged → Overlay → Space → ℕ → Slots
@@ -71,6 +72,12 @@ pub record IsNoted (p q : Overlay) (r t : Space) (n : ℕ) (ps : List PlacedChan
   pub end : t.end ≡ r.end
   pub limit : t.limit ≡ r.limit
 
+-- of a space of which no slot is named all stays as it was noted
+pub untouched_after : (h : Header) (pages : Paged) (o q : Overlay) (room t : Space) (len end : ℕ) (was es : Cached) (ps : List PlacedChange) (space : spaces.Space)
+    → changes_of q space ≡ noted ps space (changes_of o space) → All (λ c. c.id.space ≢ space) (map change_of ps) → changes_in (parts h pages q t end es) space ≡ changes_in (parts h pages o room len was) space
+untouched_after h pages o q room t len end was es ps space are others =
+    changes_seen h pages q t end es space ∙ are ∙ noted_elsewhere ps space (changes_of o space) others ∙ sym (changes_seen h pages o room len was space)
+
 module _ (h : Header) (pages : Paged) (o p : Overlay) (room r : Space) (fresh len : ℕ) (changes : List SlotChange) (ps : List PlacedChange) (planned : Planned) (f : IsPlaced h pages o p room r fresh len changes ps planned) where
   pub ready : IsSession p r fresh (cells_of ps)
   ready = session_ready h pages o p room r fresh len changes ps f.whole f.is f.are f.sizes f.opened f.back f.spare f.same f.unit f.limit f.is_room
@@ -99,6 +106,16 @@ module _ (h : Header) (pages : Paged) (o p : Overlay) (room r : Space) (fresh le
     whole_after = subst (IsWhole h pages q t n) (ap (λ u. end_after u len (slots_of ps)) units ∙ sym f.plan.end)
         (whole_noted h pages o p room r fresh len changes ps f.whole f.is f.are f.sizes f.opened f.back f.spare f.same f.unit f.limit f.is_room q t n g.session g.changes_are g.moved g.unit g.end g.limit)
 
+    place_after : (id : SlotId) → session_place (seen h pages q t planned.end) id ≡ placed_place ps id (place_in pages.pages o id)
+    place_after = session_then h pages o q room t len planned.end ps (distinct_of changes ps f.are f.is.distinct) (λ space. g.changes_are space ∙ ap (noted ps space) (f.same space))
+
+    -- a slot is there then as the changes leave it
+    pub there_after : (id : SlotId) → is_some (session_place (seen h pages q t planned.end) id) ≡ has_after changes id (is_some (session_place (seen h pages o room len) id))
+    there_after id =
+        ap is_some (place_after id)
+        ∙ there_same ps id (place_in pages.pages o id)
+        ∙ (λ i. has_after (f.are i) id (is_some (sym (session_is h pages o room len [] id) i)))
+
   module _ (d : Disk) (agrees : Agrees (seen h pages o room len) d) where
     pub fits : Fit (as_pieces planned.runs.items) d.bytes
     fits = runs_fit h pages.pages o len r.end (slots_of ps) (as_pieces planned.runs.items) pos_unit f.sizes slots_some (cells_some (slots_of ps) slots_some) f.whole.some once_unit f.plan.runs ends_unit in_room d agrees.holds agrees.len agrees.fresh
@@ -118,20 +135,9 @@ module _ (h : Header) (pages : Paged) (o p : Overlay) (room r : Space) (fresh le
 
       pub session_after : Same (session (seen h pages q t planned.end) e) (changed changes (session (seen h pages o room len) d))
       session_after id =
-          ap (λ cs. content (unit_of h) e.bytes (option_map_or (λ x. x) (lookup (nat_eq id.number) cs) (pointer_of pages.pages id.space id.number))) (in_space id.space ∙ g.changes_are id.space ∙ ap (noted ps id.space) (f.same id.space))
-          ∙ ap (content (unit_of h) e.bytes) (noted_place ps id (changes_of o id.space) (pointer_of pages.pages id.space id.number) (distinct_of changes ps f.are f.is.distinct))
+          ap (content (unit_of h) e.bytes) (place_after q t n g id)
           ∙ changed_there (unit_of h) e.bytes (session (seen h pages o room len) d) ps id (place_in pages.pages o id)
           (slots_have h pages.pages o len r.end (slots_of ps) (as_pieces planned.runs.items) pos_unit f.sizes slots_some (cells_some (slots_of ps) slots_some) f.whole.some once_unit f.plan.runs ends_unit in_room d agrees.holds agrees.len agrees.fresh e wrote)
-          (base_kept h pages.pages o len r.end (slots_of ps) (as_pieces planned.runs.items) pos_unit f.sizes slots_some (cells_some (slots_of ps) slots_some) f.whole.some once_unit f.plan.runs ends_unit in_room d agrees.holds agrees.len agrees.fresh e wrote id ∙ old_session id)
+          (base_kept h pages.pages o len r.end (slots_of ps) (as_pieces planned.runs.items) pos_unit f.sizes slots_some (cells_some (slots_of ps) slots_some) f.whole.some once_unit f.plan.runs ends_unit in_room d agrees.holds agrees.len agrees.fresh e wrote id
+          ∙ ap (content (unit_of h) d.bytes) (sym (session_is h pages o room len [] id)))
           ∙ ap (λ cs. changed cs (session (seen h pages o room len) d) id) f.are
-        where
-          in_space : (space : spaces.Space) → changes_in (seen h pages q t planned.end) space ≡ changes_of q space
-          in_space Objects = refl
-          in_space System = refl
-
-          old_session : (id : SlotId) → content (unit_of h) d.bytes (place_in pages.pages o id) ≡ session (seen h pages o room len) d id
-          old_session id = ap (λ cs. content (unit_of h) d.bytes (option_map_or (λ x. x) (lookup (nat_eq id.number) cs) (pointer_of pages.pages id.space id.number))) (old_space id.space)
-            where
-              old_space : (space : spaces.Space) → changes_of o space ≡ changes_in (seen h pages o room len) space
-              old_space Objects = refl
-              old_space System = refl

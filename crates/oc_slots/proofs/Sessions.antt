@@ -1,9 +1,9 @@
 -- Changes that are noted one after another.
-use Rattle.std.proofs.Common.{◌≡◌, ◌∙◌, inl, inr, ℕ, suc, ◌+◌, ◌≤◌, ◌<◌, List, [], ◌∷◌, ◌++◌, length, take, drop, get_or, sym, ap, subst, refl, arith, length-append, map, Option, Some, None}
+use Rattle.std.proofs.Common.{◌≡◌, ◌∙◌, inl, inr, ℕ, suc, ◌+◌, ◌≤◌, ◌<◌, List, [], ◌∷◌, ◌++◌, length, take, drop, get_or, sym, ap, subst, refl, arith, length-append, Option, Some, None}
 use Rattle.std.specs.Prelude.{All, Contains}
 use Rattle.std.proofs.Math.Seq.{drop-cons}
-use Rattle.std.proofs.lemmas.List.{append_assoc, get_or_append_left, get_or_default, take_more}
-use Rattle.std.proofs.lemmas.List.Elements.{All-append, Contains-append_left, Contains-append_right, Contains-append_cases}
+use Rattle.std.proofs.lemmas.List.{append_assoc, take_more}
+use Rattle.std.proofs.lemmas.List.Elements.{Contains-append_left, Contains-append_right, Contains-append_cases}
 use Rattle.oc_layout.specs.declared.cells.Cell.{Cell}
 use Rattle.oc_layout.specs.declared.cells.Space as spaces
 use Rattle.oc_layout.specs.Layout.{blocks}
@@ -15,8 +15,8 @@ use Rattle.oc_slots.specs.declared.placed.PlacedChange.{PlacedChange}
 use Rattle.oc_slots.specs.Slots.{Changes, put_change, cell_list, cells_of}
 use Rattle.oc_slots.specs.Stores.{fresh_of}
 use Rattle.oc_slots.specs.Noting.{place_of, noted, IsSession}
-use Rattle.oc_slots.proofs.Noted.{each_in, left_of, owners_append}
-use Rattle.oc_slots.proofs.PlacedSlots.{cells_append}
+use Rattle.oc_slots.proofs.Things.{left_of}
+use Rattle.oc_slots.proofs.Noted.{each_in, owners_append}
 
 -- what holds of a list holds of what is in it
 pub of_contained : (P : Cell → Type 0) (xs ys : List Cell) → ((c : Cell) → Contains xs c → Contains ys c) → All P ys → All P xs

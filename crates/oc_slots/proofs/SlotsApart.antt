@@ -23,8 +23,8 @@ use Rattle.oc_slots.specs.Held.{IsBeside}
 use Rattle.oc_slots.specs.Pieces.{ShareNone}
 use Rattle.oc_slots.proofs.AddedPages.{IsInPage, writes_within}
 use Rattle.oc_slots.proofs.Apart.{ends_before, beside_first}
-use Rattle.oc_slots.proofs.Noted.{left_of, right_of, owners_append}
-use Rattle.oc_slots.proofs.Things.{tail_of}
+use Rattle.oc_slots.proofs.Noted.{owners_append}
+use Rattle.oc_slots.proofs.Things.{tail_of, left_of, right_of}
 use Rattle.oc_slots.proofs.Tilings.{both_apart}
 
 -- ---- pages and the slots that they name

@@ -26,7 +26,10 @@ head_of P x xs all = all 0 x (omega arith)
 pub tail_of : {X : Type 0} (P : X → Type 0) (x : X) (xs : List X) → All P (x ∷ xs) → All P xs
 tail_of P x xs all = λ k d lt. all (suc k) d (omega (arith, lt))
 
-right_of : {X : Type 0} (P : X → Type 0) (xs ys : List X) → All P (xs ++ ys) → All P ys
+pub left_of : {X : Type 0} (P : X → Type 0) (xs ys : List X) → All P (xs ++ ys) → All P xs
+left_of P xs ys all k d lt = subst P (get_or_append_left xs ys d k lt) (all k d (omega (arith, lt, length-append xs ys)))
+
+pub right_of : {X : Type 0} (P : X → Type 0) (xs ys : List X) → All P (xs ++ ys) → All P ys
 right_of P [] ys all = all
 right_of P (x ∷ xs) ys all = right_of P xs ys (tail_of P x (xs ++ ys) all)
 

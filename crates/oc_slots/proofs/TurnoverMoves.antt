@@ -1,5 +1,5 @@
 -- Which slots changed, and where they are then.
-use Rattle.std.proofs.Common.{◌≡◌, inl, inr, ℕ, ◌+◌, ◌≤◌, true, false, cond, List, [], ◌∷◌, ◌++◌, map, Option, Some, None, sym, ap, subst, refl, arith}
+use Rattle.std.proofs.Common.{◌≡◌, inl, inr, ℕ, ◌≤◌, true, false, cond, List, [], ◌∷◌, ◌++◌, map, Option, Some, None, sym, ap, subst, refl, arith}
 use Rattle.std.specs.Prelude.{All, flat_map, is_some, if◌then◌else◌, ◌||◌, nat_eq}
 use Rattle.std.specs.List.{list_any, IsDistinct, AllByRecursion}
 use Rattle.std.specs.Map.{lookup}
@@ -17,10 +17,10 @@ use Rattle.oc_slots.specs.Maps.{is_same}
 use Rattle.oc_slots.specs.Slots.{Changes, cell_list, cells_of, places_in}
 use Rattle.oc_slots.specs.Noting.{place_of, placed_place}
 use Rattle.oc_slots.specs.Turnovers.{is_noted, slot_at, pointed, other_pointed}
-use Rattle.oc_slots.proofs.Noted.{left_of, right_of}
 use Rattle.oc_slots.proofs.Sessions.{cells_one}
-use Rattle.oc_slots.proofs.Things.{tail_of}
-use Rattle.oc_slots.proofs.TurnoverCounts.{is_true, same_true, differs, count, count_front, none_named}
+use Rattle.oc_slots.proofs.Things.{tail_of, left_of, right_of}
+use Rattle.oc_slots.proofs.SameSlots.{is_true, same_true, differs}
+use Rattle.oc_slots.proofs.TurnoverCounts.{count, count_front, none_named}
 use Rattle.oc_slots.proofs.TurnoverPointed.{Move, mover, moved_place, is_mover, HasByte, pointings_of}
 
 -- ---- those that are placed

@@ -22,7 +22,8 @@ use Rattle.oc_slots.specs.Maps.{is_same}
 use Rattle.oc_slots.specs.Pointings.{writes_of, is_pointed, pointed_place, cells_in, replaced, AreAt, AreDistinct, AreHeld}
 use Rattle.oc_slots.proofs.PointedPages.{things_all}
 use Rattle.oc_slots.proofs.Things.{tail_of}
-use Rattle.oc_slots.proofs.TurnoverCounts.{clash, same_true, differs, count, count_front, named_once, once_distinct}
+use Rattle.oc_slots.proofs.SameSlots.{clash, same_true, differs}
+use Rattle.oc_slots.proofs.TurnoverCounts.{count, count_front, named_once, once_distinct}
 use Rattle.oc_slots.proofs.TurnoverPointed.{pointee}
 
 -- ---- what the order doesn't matter to

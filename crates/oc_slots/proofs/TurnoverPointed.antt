@@ -1,5 +1,5 @@
 -- The pointings of slots that changed.
-use Rattle.std.proofs.Common.{◌≡◌, ◌∙◌, inl, inr, ℕ, suc, ◌+◌, ◌≤◌, Bool, false, cond, List, [], ◌∷◌, ◌++◌, get_or, Option, Some, None, subst, refl, arith}
+use Rattle.std.proofs.Common.{◌≡◌, ◌∙◌, inl, inr, ℕ, suc, ◌≤◌, Bool, false, cond, List, [], ◌∷◌, ◌++◌, get_or, Option, Some, None, subst, refl, arith}
 use Rattle.std.specs.Prelude.{All, AllPairs, flat_map, is_some, unwrap_or, if◌then◌else◌, ◌||◌, ◌&&◌}
 use Rattle.std.specs.List.{list_any}
 use Rattle.std.proofs.lemmas.Bool.{cases_Bool}
@@ -15,7 +15,8 @@ use Rattle.oc_slots.specs.Maps.{is_same}
 use Rattle.oc_slots.specs.Pointings.{is_pointed, pointed_place, AreAt}
 use Rattle.oc_slots.specs.Turnovers.{pointed}
 use Rattle.oc_slots.proofs.Things.{tail_of}
-use Rattle.oc_slots.proofs.TurnoverCounts.{same_itself, same_slot, differs, count, count_front, count_both}
+use Rattle.oc_slots.proofs.SameSlots.{same_itself, same_slot, differs}
+use Rattle.oc_slots.proofs.TurnoverCounts.{count, count_front, count_both}
 
 -- a slot that changed, and where it is then
 abbrev pub Move : Type 0

@@ -1,5 +1,5 @@
 -- The slots that changed, of both spaces.
-use Rattle.std.proofs.Common.{◌≡◌, ◌∙◌, inl, inr, ℕ, ◌+◌, ◌≤◌, Bool, true, false, cond, List, [], ◌∷◌, ◌++◌, map, Option, Some, None, sym, ap, refl, arith}
+use Rattle.std.proofs.Common.{◌≡◌, ◌∙◌, inl, inr, ℕ, ◌≤◌, Bool, true, false, cond, List, [], ◌∷◌, ◌++◌, map, Option, Some, None, sym, ap, refl, arith}
 use Rattle.std.specs.Prelude.{All, AllPairs, flat_map, is_some, ◌||◌, nat_eq}
 use Rattle.std.specs.List.{list_any, IsDistinct}
 use Rattle.std.specs.Map.{lookup}
@@ -22,10 +22,10 @@ use Rattle.oc_slots.specs.Slots.{Changes, changes_of, cells_of, places_in}
 use Rattle.oc_slots.specs.Stores.{AreNumbers, fresh_of}
 use Rattle.oc_slots.specs.Noting.{place_of, placed_place, place_in, noted}
 use Rattle.oc_slots.specs.Turnovers.{is_noted, is_changed, slot_at, pointed, other_pointed}
-use Rattle.oc_slots.proofs.Noted.{left_of, right_of}
 use Rattle.oc_slots.proofs.SessionMap.{noted_place}
-use Rattle.oc_slots.proofs.Things.{tail_of}
-use Rattle.oc_slots.proofs.TurnoverCounts.{clash, same_slot, count, count_front, count_both, none_named, named_once, once_distinct}
+use Rattle.oc_slots.proofs.Things.{tail_of, left_of, right_of}
+use Rattle.oc_slots.proofs.SameSlots.{clash, same_slot}
+use Rattle.oc_slots.proofs.TurnoverCounts.{count, count_front, count_both, none_named, named_once, once_distinct}
 use Rattle.oc_slots.proofs.TurnoverPointed.{Move, mover, moved_place, is_mover, HasByte, pointings_of}
 use Rattle.oc_slots.proofs.TurnoverMoves.{placed_moves, placed_there, placed_movers, placed_count, placed_pointings, placed_are, placed_bytes, other_moves, other_pointings, others_are, other_bytes, others_apart, other_there, other_movers, other_count, changes_differ}
 

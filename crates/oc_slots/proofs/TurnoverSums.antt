@@ -17,7 +17,7 @@ use Rattle.oc_slots.specs.Pointings.{cells_in, replaced}
 use Rattle.oc_slots.specs.Slots.{Changes, cell_list, cells_of, places_in}
 use Rattle.oc_slots.specs.Noting.{place_of}
 use Rattle.oc_slots.specs.Turnovers.{is_noted, slot_at, pointed, other_pointed, other_freed}
-use Rattle.oc_slots.proofs.Noted.{left_of, right_of}
+use Rattle.oc_slots.proofs.Things.{left_of, right_of}
 use Rattle.oc_slots.proofs.Sessions.{cells_one}
 use Rattle.oc_slots.proofs.TurnoverPointed.{pointed_from, pointer_some}
 

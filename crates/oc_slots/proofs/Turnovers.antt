@@ -22,7 +22,7 @@ use Rattle.oc_slots.specs.Stores.{AreNumbers, fresh_of}
 use Rattle.oc_slots.specs.Noting.{place_of, noted}
 use Rattle.oc_slots.specs.Pointings.{cells_in, replaced, AreDistinct}
 use Rattle.oc_slots.specs.Turnovers.{slot_at, pointed, other_pointed, other_freed, IsTurnover}
-use Rattle.oc_slots.proofs.Noted.{left_of, right_of}
+use Rattle.oc_slots.proofs.Things.{left_of, right_of}
 use Rattle.oc_slots.proofs.TurnoverCounts.{named_once, once_distinct}
 use Rattle.oc_slots.proofs.TurnoverPointed.{Move, mover, pointee, pointings_of, pointed_once, pointed_are, pointed_at, pointed_there, pointed_just}
 use Rattle.oc_slots.proofs.TurnoverSlots.{moves_of, moved_there, movers_are, moves_distinct, moves_numbers, moves_bytes, pointings_are}

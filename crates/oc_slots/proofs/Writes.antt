@@ -1,5 +1,5 @@
 -- A write beside what a file holds of its committed side.
-use Rattle.std.proofs.Common.{◌≡◌, ◌∙◌, inl, inr, ℕ, ◌+◌, ◌≤◌, max, List, ◌∷◌, length, sym, subst, arith}
+use Rattle.std.proofs.Common.{◌≡◌, inl, inr, ℕ, ◌+◌, ◌≤◌, max, List, ◌∷◌, length, sym, subst, arith}
 use Rattle.std.specs.Prelude.{All}
 use Rattle.std.proofs.lemmas.Bool.{cases_lt}
 use Rattle.oc_layout.specs.declared.cells.Cell.{Cell}
@@ -10,11 +10,11 @@ use Rattle.oc_log.proofs.Bytes.{length-over, over_out}
 use Rattle.oc_pages.specs.declared.page.Page.{Page}
 use Rattle.oc_pages.specs.Pages.{things_of}
 use Rattle.oc_slots.specs.Maps.{Same}
-use Rattle.oc_slots.specs.Forms.{LiesIn, Gives, header_cell}
+use Rattle.oc_slots.specs.Forms.{LiesIn, GivesFrom, header_cell}
 use Rattle.oc_slots.specs.Held.{IsHeld, IsBeside, Holds, map_of}
 use Rattle.oc_slots.proofs.Headers.{begins_alike}
 use Rattle.oc_slots.proofs.Things.{IsAlike, tail_of, slots_alike, pages_alike}
-use Rattle.oc_slots.proofs.HeldGives.{held_gives}
+use Rattle.oc_slots.proofs.HeldGives.{gives_same, held_gives}
 
 module _ (h : Header) (pages : List Page) (d : Disk) (holds : Holds h pages d) (at : ℕ) (bytes : List ℕ) (start : at ≤ length d.bytes)
     (room : blocks (unit_of h) (at + length bytes) ≤ room_of h) (beside : All (IsBeside (unit_of h) at (length bytes)) (header_cell ∷ things_of pages)) (sound : IsDisk (wrote at bytes d)) where
@@ -56,7 +56,6 @@ module _ (h : Header) (pages : List Page) (d : Disk) (holds : Holds h pages d) (
   same_map id = slots_alike (unit_of h) d.bytes (over at bytes d.bytes) pages holds.inside inside alike id.space id.number
 
   -- a stop in the write leaves the committed side
-  pub gives_in_write : (image said : List ℕ) → IsImage (writing at (length bytes) d) image said → Gives image (map_of h pages d.bytes)
+  pub gives_in_write : (image said : List ℕ) → IsImage (writing at (length bytes) d) image said → GivesFrom h.first image (map_of h pages d.bytes)
   gives_in_write image said im =
-      let g = held_gives h pages (wrote at bytes d) still_holds image said im in
-      record { header = g.header; writes = g.writes; pages = g.pages; form = g.form; slots = λ id. sym (same_map id) ∙ g.slots id }
+      gives_same h.first image (map_of h pages d.bytes) (map_of h pages (wrote at bytes d).bytes) (λ id. sym (same_map id)) (held_gives h pages (wrote at bytes d) still_holds image said im)

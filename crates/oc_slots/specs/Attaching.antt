@@ -10,7 +10,7 @@ use Rattle.oc_pages.specs.Pages.{no_cell, things_of}
 use Rattle.oc_room.specs.Rooms.{owners}
 use Rattle.oc_slots.specs.declared.slot.Making.{Making}
 use Rattle.oc_slots.specs.Maps.{SlotMap}
-use Rattle.oc_slots.specs.Forms.{Begins, HasForm, Gives, LiesIn, IsTarget, header_cell, log_things, root_place}
+use Rattle.oc_slots.specs.Forms.{Begins, HasForm, Gives, GivesFrom, LiesIn, IsTarget, header_cell, log_things, root_place}
 use Rattle.oc_slots.specs.Stores.{Slots}
 
 -- ---- what is made
@@ -49,11 +49,11 @@ made_header m = with_blocks m.block (plain_header m.limit m.first)
 abbrev pub MayBeMade : Bool → List ℕ → Type 0
 MayBeMade anew b = (length b ≡ 0) ⊎ (IsTrue anew × (length b ≤ 128) × ((m : SlotMap) → Gives b m → ⊥))
 
--- What a stop may leave once the file is synced. What was said stays, and each map that the file gave is given still. A file that may be made has
--- at most 128 bytes, and one that gives no map and may not be made stays as it is.
+-- What a stop may leave once the file is synced. What was said stays, and each map that the file gave is given still, with the header's first
+-- number. A file that may be made has at most 128 bytes, and one that gives no map and may not be made stays as it is.
 pub record MayLeave (anew : Bool) (d : Disk) (image said : List ℕ) : Type 0 where
   pub told : said ≡ d.said
-  pub gives : (m : SlotMap) → Gives d.bytes m → Gives image m
+  pub gives : (first : ℕ) (m : SlotMap) → GivesFrom first d.bytes m → GivesFrom first image m
   pub short : MayBeMade anew d.bytes → length image ≤ 128
   pub stays : ((m : SlotMap) → Gives d.bytes m → ⊥) → (MayBeMade anew d.bytes → ⊥) → image ≡ d.bytes
 
@@ -129,10 +129,10 @@ pub record IsFound (h : Header) (ws : List CellWrite) (ps : List Page) (s : Slot
   pub pages : s.pages ≡ ps
   pub bytes : new ≡ (if h.gate == 1 then over 64 (0 ∷ []) (put_cells ws old) else old)
 
--- A stop leaves what was said, and a file that gives each map that the file gave.
+-- A stop leaves what was said, and a file that gives each map that the file gave, with the header's first number.
 pub record StillGives (d : Disk) (image said : List ℕ) : Type 0 where
   pub told : said ≡ d.said
-  pub gives : (m : SlotMap) → Gives d.bytes m → Gives image m
+  pub gives : (first : ℕ) (m : SlotMap) → GivesFrom first d.bytes m → GivesFrom first image m
 
 -- A stop leaves what was said, and a file of at most 128 bytes.
 pub record StaysShort (d : Disk) (image said : List ℕ) : Type 0 where

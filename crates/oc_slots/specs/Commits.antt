@@ -12,7 +12,7 @@ use Rattle.oc_pages.specs.Pages.{things_of}
 use Rattle.oc_pages.specs.Chains.{HasPages}
 use Rattle.oc_room.specs.Rooms.{owners}
 use Rattle.oc_slots.specs.declared.slot.SlotChange.{SlotChange}
-use Rattle.oc_slots.specs.Forms.{LiesIn, IsTarget, IsOwn, Gives, header_cell}
+use Rattle.oc_slots.specs.Forms.{LiesIn, IsTarget, IsOwn, GivesFrom, header_cell}
 use Rattle.oc_slots.specs.Maps.{changed}
 use Rattle.oc_slots.specs.Stores.{Slots, committed, session}
 
@@ -29,6 +29,7 @@ pub record IsCommit (h : Header) (old new : List Page) (place : Cell) (cells : L
   pub chain : HasPages (unit_of h) (put_cells cells d.bytes) (first_page_of (fields (put_cells cells d.bytes))) new
   pub targets_are : All (λ w. IsTarget h new w.target) cells
 
--- A stop leaves what was said, and the slots of the last commit or those of the session with these changes.
+-- A stop leaves what was said, the header's first number, and the slots of the last commit or those of the session with these changes.
 abbrev pub BeforeOrAfter : Slots → List SlotChange → Disk → List ℕ → List ℕ → Type 0
-BeforeOrAfter s last d image said = (said ≡ d.said) × (Gives image (committed s d) ⊎ Gives image (changed last (session s d)))
+BeforeOrAfter s last d image said =
+    (said ≡ d.said) × (GivesFrom (s.header).first image (committed s d) ⊎ GivesFrom (s.header).first image (changed last (session s d)))

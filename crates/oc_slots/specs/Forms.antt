@@ -73,3 +73,8 @@ pub record Gives (image : List ℕ) (m : SlotMap) : Type 0 where
   pub pages : List Page
   pub form : HasForm header writes pages image
   pub slots : (id : SlotId) → m id ≡ content (unit_of header) (put_cells writes image) (pointer_of pages id.space id.number)
+
+-- The image gives this map, and its header has this number as that of the first object.
+pub record GivesFrom (first : ℕ) (image : List ℕ) (m : SlotMap) : Type 0 where
+  pub gives : Gives image m
+  pub is_first : (gives.header).first ≡ first

@@ -1,6 +1,5 @@
 -- Bytes that are written one after another.
 use Rattle.std.specs.Prelude.{◌≡◌, ◌⊎◌, ◌≤◌, ℕ, ◌+◌, ◌-◌, ◌*◌, ◌==◌, nat_lt, max, if◌then◌else◌, List, [], ◌∷◌, ◌++◌, length, map, replicate, Option, Some, None, All}
-use Rattle.std.specs.Option.{option_map_or}
 use Rattle.oc_layout.specs.declared.cells.Cell.{Cell}
 use Rattle.oc_layout.specs.Layout.{blocks}
 use Rattle.oc_host.specs.Disk.{over}

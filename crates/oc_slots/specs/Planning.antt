@@ -1,5 +1,5 @@
 -- What a commit has ready before it changes anything: all that it needs of memory and of the room of the file.
-use Rattle.std.specs.Prelude.{◌≡◌, ◌⊎◌, ◌≤◌, ℕ, ◌+◌, ◌*◌, ◌==◌, ◌&&◌, ◌||◌, max, nat_eq, Bool, true, false, if◌then◌else◌, IsTrue, IsSome, List, [], ◌∷◌, ◌++◌, length, map, replicate, slice_index_or, is_some, Option, Some, None, All, AllPairs}
+use Rattle.std.specs.Prelude.{◌≡◌, ◌⊎◌, ◌≤◌, ℕ, ◌+◌, ◌*◌, ◌==◌, ◌&&◌, ◌||◌, max, nat_eq, Bool, true, false, if◌then◌else◌, IsSome, List, [], ◌∷◌, ◌++◌, length, map, replicate, slice_index_or, is_some, Option, Some, All, AllPairs}
 use Rattle.std.specs.List.{list_any}
 use Rattle.std.specs.Map.{lookup}
 use Rattle.oc_layout.specs.declared.cells.Cell.{Cell}
@@ -26,8 +26,8 @@ use Rattle.oc_slots.specs.declared.slot.SlotId.{SlotId}
 use Rattle.oc_slots.specs.declared.turnover.Pointing.{Pointing}
 use Rattle.oc_slots.specs.Attaching.{with_cells}
 use Rattle.oc_slots.specs.Commits.{IsCommit}
-use Rattle.oc_slots.specs.Maps.{is_same}
-use Rattle.oc_slots.specs.Forms.{Gives, header_cell}
+use Rattle.oc_slots.specs.Maps.{has_after, is_same}
+use Rattle.oc_slots.specs.Forms.{GivesFrom, header_cell}
 use Rattle.oc_slots.specs.Held.{Holds, map_of}
 use Rattle.oc_slots.specs.Slots.{change_of, changes_of, cells_of, slots_of, lengths_of}
 use Rattle.oc_slots.specs.Stores.{Slots, AreNumbers, changes_in, session_place, committed_place, fresh_of}
@@ -42,22 +42,19 @@ abbrev pub end_over : ℕ → ℕ → List Cell → ℕ
 end_over unit len [] = len
 end_over unit len (c ∷ cs) = end_over unit (max len (c.at * unit + c.len)) cs
 
--- the slot is there once these changes are made, if it was there before or not
-abbrev pub has_after : List SlotChange → SlotId → Bool → Bool
-has_after [] id was = was
-has_after (c ∷ cs) id was = if is_same c.id id then is_some c.bytes else has_after cs id was
+-- The slot moves: one of these last changes names it or it changed since the last commit, and it is there then or was at the last commit. So its
+-- pointer is set. These are where the session has it, and where the last commit has it.
+abbrev pub moves_where : List SlotChange → SlotId → Bool → Option Cell → Option Cell → Bool
+moves_where last id has_changed session committed =
+    (list_any (λ c. is_same c.id id) last || has_changed) && (has_after last id (is_some session) || is_some committed)
 
--- A change names the slot or the overlay has it, and it is there then or was at the last commit: so its pointer is set.
+-- the slot moves by a commit of an overlay over pages
 abbrev pub moves : List Page → Overlay → List SlotChange → SlotId → Bool
-moves pages o last id =
-    (list_any (λ c. is_same c.id id) last || is_some (lookup (nat_eq id.number) (changes_of o id.space)))
-    && (has_after last id (is_some (place_in pages o id)) || is_some (pointer_of pages id.space id.number))
+moves pages o last id = moves_where last id (is_some (lookup (nat_eq id.number) (changes_of o id.space))) (place_in pages o id) (pointer_of pages id.space id.number)
 
--- the same of a store
+-- the slot moves by a commit of a store
 abbrev pub moves_in : Slots → List SlotChange → SlotId → Bool
-moves_in s last id =
-    (list_any (λ c. is_same c.id id) last || is_some (lookup (nat_eq id.number) (changes_in s id.space)))
-    && (has_after last id (is_some (session_place s id)) || is_some (committed_place s id))
+moves_in s last id = moves_where last id (is_some (lookup (nat_eq id.number) (changes_in s id.space))) (session_place s id) (committed_place s id)
 
 -- the bytes of a commit's log: the root cell is in it where pages are added, and each pointer that a page has
 abbrev pub log_length : Bool → ℕ → List Pointing → ℕ
@@ -216,7 +213,8 @@ pub record IsReady (h : Header) (new : List Page) (plan : CommitPlan) : Type 0 w
   pub order : (last : ℕ) × AreInOrder (unit_of h) (blocks (unit_of h) plan.planned.end) (places_of plan.added.items) last
   pub header : plan.header ≡ header_after plan h
 
--- A stop leaves what was said, and the map of the old pages or that of the new ones.
+-- A stop leaves what was said, the header's first number, and the map of the old pages or that of the new ones.
 abbrev pub OldOrNew : Header → List Page → List Page → CommitPlan → Disk → List ℕ → List ℕ → Type 0
 OldOrNew h old new plan d image said =
-    (said ≡ d.said) × (Gives image (map_of h old d.bytes) ⊎ Gives image (map_of h new (put_cells plan.draft.writes (written (unit_of h) plan new d.bytes))))
+    (said ≡ d.said)
+    × (GivesFrom h.first image (map_of h old d.bytes) ⊎ GivesFrom h.first image (map_of h new (put_cells plan.draft.writes (written (unit_of h) plan new d.bytes))))

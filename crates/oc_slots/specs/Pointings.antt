@@ -1,5 +1,5 @@
 -- Cells that numbers get in the pages.
-use Rattle.std.specs.Prelude.{◌≡◌, ℕ, Bool, false, if◌then◌else◌, List, [], ◌∷◌, flat_map, IsSome, Option, Some, None, option_map, All, AllPairs}
+use Rattle.std.specs.Prelude.{◌≡◌, ℕ, Bool, false, if◌then◌else◌, List, [], ◌∷◌, flat_map, IsSome, Option, option_map, All, AllPairs}
 use Rattle.std.specs.List.{list_any}
 use Rattle.std.specs.Option.{option_to_list}
 use Rattle.oc_layout.specs.declared.cells.Cell.{Cell}

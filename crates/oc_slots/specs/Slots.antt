@@ -1,8 +1,6 @@
 -- What contracts see of a slot store: two sides of one file, of which one is told by what changed in the other.
-use Rattle.std.specs.Prelude.{◌≡◌, ◌≤◌, ℕ, ◌==◌, nat_eq, nat_lt, min, Bool, if◌then◌else◌, List, [], ◌∷◌, ◌++◌, length, map, flat_map, Option, Some, None, option_map, All}
+use Rattle.std.specs.Prelude.{◌≤◌, ℕ, ◌==◌, nat_eq, min, if◌then◌else◌, List, [], ◌∷◌, length, map, flat_map, Option, Some, None, option_map, All}
 use Rattle.std.specs.HashMap.{spare}
-use Rattle.std.specs.Map.{lookup}
-use Rattle.std.specs.Option.{option_map_or}
 use Rattle.indexmap.specs.IndexMap.{insert_entry}
 use Rattle.oc_layout.specs.declared.cells.Cell.{Cell}
 use Rattle.oc_layout.specs.declared.cells.Space.{Space}

@@ -1,5 +1,5 @@
 -- What contracts see of a slot store, and its two maps.
-use Rattle.std.specs.Prelude.{◌≡◌, ◌≢◌, ◌≤◌, ℕ, true, false, nat_eq, List, ◌∷◌, ◌++◌, length, Option, Some, None, All, AllPairs}
+use Rattle.std.specs.Prelude.{◌≡◌, ◌≢◌, ◌≤◌, ℕ, true, false, nat_eq, List, [], ◌∷◌, ◌++◌, length, Option, Some, None, is_some, All, AllPairs}
 use Rattle.std.specs.Map.{keys_of, lookup}
 use Rattle.std.specs.Option.{option_map_or}
 use Rattle.oc_layout.specs.declared.cells.Cell.{Cell}
@@ -19,7 +19,7 @@ use Rattle.oc_slots.specs.declared.slot.Side.TheVariants.{Committed, Session}
 use Rattle.oc_slots.specs.declared.slot.SlotId.{SlotId}
 use Rattle.oc_slots.specs.declared.slot.SlotChange.{SlotChange}
 use Rattle.oc_slots.specs.Cached.{Cached}
-use Rattle.oc_slots.specs.Maps.{SlotMap, bytes_at, content, is_same}
+use Rattle.oc_slots.specs.Maps.{SlotMap, bytes_at, content, has_after, is_same}
 use Rattle.oc_slots.specs.Forms.{LiesIn, header_cell}
 use Rattle.oc_slots.specs.Held.{Holds, map_of}
 use Rattle.oc_slots.specs.Slots.{Changes, changes_of, places_in, AreSome}
@@ -160,3 +160,9 @@ pub record IsUnchanged (old new : Slots) : Type 0 where
   pub room : rooms.IsSame old.room new.room
   pub len : new.len ≡ old.len
   pub cached : new.cached ≡ old.cached
+
+-- both sides are the session that was with these changes: nothing has changed since, and just its slots are there
+pub record IsSettled (last : List SlotChange) (old new : Slots) : Type 0 where
+  pub objects : new.objects ≡ []
+  pub system : new.system ≡ []
+  pub there : (id : SlotId) → is_some (committed_place new id) ≡ has_after last id (is_some (session_place old id))

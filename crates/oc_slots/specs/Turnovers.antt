@@ -1,5 +1,5 @@
 -- What a commit does to the pointers, and the pages that it adds.
-use Rattle.std.specs.Prelude.{◌≡◌, ◌⊎◌, ◌≤◌, ◌<◌, ℕ, ◌+◌, ◌==◌, ◌&&◌, ◌||◌, nat_eq, Bool, false, if◌then◌else◌, IsTrue, List, [], ◌∷◌, ◌++◌, length, map, take, flat_map, is_some, unwrap_or, Option, None, All, AllPairs, sum_by}
+use Rattle.std.specs.Prelude.{◌≡◌, ◌≤◌, ℕ, ◌+◌, ◌==◌, ◌&&◌, ◌||◌, nat_eq, Bool, false, if◌then◌else◌, IsTrue, List, [], ◌∷◌, ◌++◌, length, map, take, flat_map, is_some, unwrap_or, Option, None, All, AllPairs, sum_by}
 use Rattle.std.specs.List.{list_any}
 use Rattle.std.specs.Map.{lookup}
 use Rattle.std.specs.Option.{option_map_or, option_to_list}

@@ -6,7 +6,7 @@ use Rattle.oc_host.specs.Disk.{Disk}
 use Rattle.oc_pages.specs.declared.page.Page.{Page}
 use Rattle.oc_pages.specs.Pages.{things_of}
 use Rattle.oc_slots.specs.Maps.{Same}
-use Rattle.oc_slots.specs.Forms.{Gives, header_cell}
+use Rattle.oc_slots.specs.Forms.{GivesFrom, header_cell}
 use Rattle.oc_slots.specs.Held.{Holds, IsBeside, map_of}
 use Rattle.oc_slots.specs.Pieces.{Piece}
 
@@ -24,6 +24,6 @@ pub record Keeps (h : Header) (pages : List Page) (old new : Disk) : Type 0 wher
   pub same : Holds h pages old → Same (map_of h pages new.bytes) (map_of h pages old.bytes)
   pub said : new.said ≡ old.said
 
--- a stop leaves what was said, and the map of the pages
+-- a stop leaves what was said, the map of the pages, and the header's first number
 abbrev pub Before : Header → List Page → Disk → List ℕ → List ℕ → Type 0
-Before h pages d image said = (said ≡ d.said) × Gives image (map_of h pages d.bytes)
+Before h pages d image said = (said ≡ d.said) × GivesFrom h.first image (map_of h pages d.bytes)

@@ -1,5 +1,5 @@
 // A file is attached.
-ghost use Rattle.std.specs.Prelude.{◌≡◌, ◌⊎◌, ◌≤◌, ◌+◌, ◌*◌, List, [], length, IsTrue, IfOk, OnOk, IsErrOf};
+ghost use Rattle.std.specs.Prelude.{◌≡◌, ◌⊎◌, ◌≤◌, ◌+◌, ◌*◌, ℕ, List, [], length, IsTrue, IfOk, OnOk, IsErrOf};
 ghost use Rattle.oc_host.specs.Counts.{Rose};
 ghost use Rattle.oc_host.specs.Disk.{IsSynced, LeavesOnly};
 ghost use Rattle.oc_layout.specs.declared.cells.CellWrite.{CellWrite};
@@ -7,7 +7,7 @@ ghost use Rattle.oc_layout.specs.declared.cells.Header.{Header};
 ghost use Rattle.oc_pages.specs.declared.page.Page.{Page};
 ghost use Rattle.oc_slots.specs.declared.attach_fault.AttachFault.TheVariants as attach_fault;
 ghost use Rattle.oc_slots.specs.Attaching.{IsFound, IsMaking, IsMade, MayBeMade, MayLeave, open_len};
-ghost use Rattle.oc_slots.specs.Forms.{HasForm, Gives};
+ghost use Rattle.oc_slots.specs.Forms.{HasForm, Gives, GivesFrom};
 ghost use Rattle.oc_slots.specs.Maps.{SlotMap, Same};
 ghost use Rattle.oc_slots.specs.Stores.{Agrees, committed, kept};
 
@@ -24,7 +24,7 @@ impl SlotStore {
     /// 128 bytes and is none. A log that a stop left open is put in.
     ///
     /// `NotAContainer` comes exactly where the file neither gives slots nor may be made; then nothing is written. However it
-    /// ends, a stop since its first sync leaves a file that gives the slots that it gave.
+    /// ends, a stop since its first sync leaves a file that gives the slots that it gave, with the first number of its header.
     pub fn attach<H: Host>(
         alloc: Global,
         host: &mut H,
@@ -37,6 +37,8 @@ impl SlotStore {
         ensures kept { IfOk result (λ store. kept store ≡ []) }
         ensures gives { IfOk result (λ store. IsTrue H.tells → (m : SlotMap) →
             Gives (H.disk host.old).bytes m → Same (committed store (H.disk host.new)) m) }
+        ensures first { IfOk result (λ store. IsTrue H.tells → (first : ℕ) (m : SlotMap) →
+            GivesFrom first (H.disk host.old).bytes m → (store.header).first ≡ first) }
         ensures form { IfOk result (λ store. IsTrue H.tells → (h : Header) (ws : List CellWrite) (pages : List Page) →
             HasForm h ws pages (H.disk host.old).bytes → IsFound h ws pages store (H.disk host.old).bytes (H.disk host.new).bytes) }
         ensures made { IfOk result (λ store. IsTrue H.tells → MayBeMade making.now.anew (H.disk host.old).bytes →

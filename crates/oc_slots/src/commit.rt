@@ -7,7 +7,7 @@ use crate::{SlotChange, SlotStore, SpaceFault};
 use oc_host::Host;
 
 impl SlotStore {
-    ghost use Rattle.std.specs.Prelude.{◌≡◌, ◌≢◌, ◌⊎◌, ◌≤◌, ℕ, List, [], true, Some, None, IsTrue, OnOk, OnErr, IsErrOf};
+    ghost use Rattle.std.specs.Prelude.{◌≡◌, ◌≢◌, ◌⊎◌, ◌≤◌, ℕ, List, true, Some, None, IsTrue, OnOk, OnErr, IsErrOf};
     ghost use Rattle.oc_host.specs.Counts.{Rose};
     ghost use Rattle.oc_host.specs.Disk.{LeavesOnly};
     ghost use Rattle.oc_layout.specs.Layout.{is_wide};
@@ -18,15 +18,15 @@ impl SlotStore {
     ghost use Rattle.oc_slots.specs.Commits.{BeforeOrAfter};
     ghost use Rattle.oc_slots.specs.Maps.{Same, changed};
     ghost use Rattle.oc_slots.specs.Planning.{AreLengths, moves_in};
-    ghost use Rattle.oc_slots.specs.Stores.{Agrees, AreChanges, IsUnchanged, IsPlace, committed, session, kept};
+    ghost use Rattle.oc_slots.specs.Stores.{Agrees, AreChanges, IsSettled, IsUnchanged, IsPlace, committed, session, kept};
 
     /// Commits the session with these changes as the last ones: both sides are that then. At every stop the file gives
     /// the slots of the last commit or those of the session, and after `Ok` those of the session.
     ///
     /// The slots of the last changes are placed first, in their order, then the pages that are missing and the log. `Full` comes
     /// exactly where one of these finds no room, and tells the first. After it and after `Memory` nothing has changed. After
-    /// `Host` the store is spent. Where no slot moved nothing is placed and written. What is kept of places that come free
-    /// is forgotten.
+    /// `Host` the store is spent, and both its sides are that session in memory. Where no slot moved nothing is placed and
+    /// written, and `Full` doesn't come. What is kept of places that come free is forgotten.
     pub fn commit<H: Host>(&mut self, host: &mut H, last: Vec<SlotChange>) -> Result<(), SpaceFault>
         requires agrees { IsTrue H.tells → Agrees self.old (H.disk host.old) }
         requires changes { AreChanges last.items }
@@ -35,8 +35,8 @@ impl SlotStore {
             Same (committed self.new (H.disk host.new)) (changed last.items (session self.old (H.disk host.old)))) }
         ensures session { OnOk result (IsTrue H.tells →
             Same (session self.new (H.disk host.new)) (changed last.items (session self.old (H.disk host.old)))) }
-        ensures objects { OnOk result (self.new.objects ≡ []) }
-        ensures system { OnOk result (self.new.system ≡ []) }
+        ensures settled { OnOk result (IsSettled last.items self.old self.new) }
+        ensures spent { IsErrOf result SpaceFault.Host → IsSettled last.items self.old self.new }
         ensures kept { OnOk result (AreThose (IsPlace self.new) (kept self.old) (kept self.new)) }
         ensures header { self.new.header ≡ record self.old.header {
           root = self.new.header.root;
@@ -55,9 +55,12 @@ impl SlotStore {
             × ((lens : List ℕ)
             × AreLengths (is_wide self.old.header) self.old.pages (moves_in self.old last.items) last.items lens
             × (lacking self.old.room.unit self.old.room.limit (unplaced self.old.room) lens ≡ Some (record { need = need; length = len }))) }
+        ensures some_moved { (need len limit : ℕ) → IsErrOf result (SpaceFault.Full need len limit) →
+            (id : SlotId) × (moves_in self.old last.items id ≡ true) }
         ensures unchanged { OnErr result (IsErrOf result SpaceFault.Host ⊎ (IsUnchanged self.old self.new × (host.new ≡ host.old))) }
         ensures any_moment { IsTrue H.tells →
             LeavesOnly (H.disk host.old) (H.disk host.new) (BeforeOrAfter self.old last.items (H.disk host.old)) }
+        ensures said { IsTrue H.tells → (H.disk host.new).said ≡ (H.disk host.old).said }
         ensures later { H.faults host.old ≤ H.faults host.new }
         ensures cause { IsErrOf result SpaceFault.Host → Rose (H.faults host.old) (H.faults host.new) }
         ensures taken { H.taken host.new ≡ H.taken host.old }

@@ -48,7 +48,7 @@ pub struct CommitPlan {
 }
 
 /// Plans a commit of the session with these changes as the last ones: everything that it writes is placed, and all
-/// memory is taken. `None` where no pointer is to be set; then nothing is placed.
+/// memory is taken. `None` where no pointer is to be set; then nothing is placed, and `Full` doesn't come.
 ///
 /// After a fault the room is as before.
 pub fn plan_commit(
@@ -76,6 +76,8 @@ pub fn plan_commit(
         × ((lens : List ℕ)
         × AreLengths (is_wide header.now) pages.old.pages (moves pages.old.pages overlay.old last.items) last.items lens
         × (lacking room.old.unit room.old.limit (unplaced room.old) lens ≡ Some (record { need = need; length = len }))) }
+    ensures some_moved { (need len limit : ℕ) → IsErrOf result (SpaceFault.Full need len limit) →
+        (id : SlotId) × (moves pages.old.pages overlay.old last.items id ≡ true) }
     ensures fault { OnErr result (IsSame room.old room.new) }
     ensures host { IsErrOf result SpaceFault.Host → ⊥ }
     ensures spare { fresh ≤ room.new.spare }
@@ -128,6 +130,8 @@ fn plan_rest(
         × ((lens : List ℕ)
         × AreLengths (is_wide header.now) pages.old.pages (is_moved pages.old.pages overlay.now changes.items) [] lens
         × (lacking room.old.unit room.old.limit (unplaced room.old) lens ≡ Some (record { need = need; length = len }))) }
+    ensures some_moved { (need len limit : ℕ) → IsErrOf result (SpaceFault.Full need len limit) →
+        (id : SlotId) × (is_moved pages.old.pages overlay.now changes.items id ≡ true) }
     ensures fault { OnErr result (IsSame room.old room.new) }
     ensures host { IsErrOf result SpaceFault.Host → ⊥ }
     ensures spare { others ≤ room.new.spare }

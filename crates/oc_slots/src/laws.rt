@@ -16,7 +16,7 @@ ghost use Rattle.oc_pages.specs.Chains.{Chain, AreApart};
 ghost use Rattle.oc_slots.specs.declared.turnover.Pointing.{Pointing};
 ghost use Rattle.oc_slots.specs.Pointings.{set_all, writes_of, pointed_place, cells_in, replaced, AreAt, AreDistinct, AreHeld};
 ghost use Rattle.oc_slots.specs.Maps.{SlotMap, Same};
-ghost use Rattle.oc_slots.specs.Forms.{HasForm, Gives, header_cell};
+ghost use Rattle.oc_slots.specs.Forms.{HasForm, Gives, GivesFrom, header_cell};
 ghost use Rattle.oc_slots.specs.Held.{IsBeside, Holds, map_of};
 ghost use Rattle.oc_layout.specs.Layout.{unit_of, room_of, blocks, FitsCell};
 ghost use Rattle.oc_pages.specs.Pages.{things_of};
@@ -26,25 +26,25 @@ pub fn laws_of_forms()
     ensures one_map { (image : List ℕ) (m n : SlotMap) → Gives image m → Gives image n → Same m n }
 {}
 
-/// Where a file holds its committed side, each file that a stop leaves gives that side's map. A write beside the
-/// header, the pages and the committed slots leaves it so, at each moment. While a commit's cells are put in by its log,
-/// each file that a stop leaves gives the old map or the new one. A synced file of the form whose gate is closed holds
-/// its committed side.
+/// Where a file holds its committed side, each file that a stop leaves gives that side's map, and its header has the
+/// same first number. A write beside the header, the pages and the committed slots leaves it so, at each moment. While a
+/// commit's cells are put in by its log, each file that a stop leaves gives the old map or the new one, with the same
+/// first number. A synced file of the form whose gate is closed holds its committed side.
 pub fn laws_of_stops()
     ensures held { (header : Header) (pages : List Page) (disk : Disk) → Holds header pages disk →
-        (image said : List ℕ) → IsImage (now disk) image said → Gives image (map_of header pages disk.bytes) }
+        (image said : List ℕ) → IsImage (now disk) image said → GivesFrom header.first image (map_of header pages disk.bytes) }
     ensures beside { (header : Header) (pages : List Page) (disk : Disk) → Holds header pages disk →
         (at : ℕ) (bytes : List ℕ) → at ≤ length disk.bytes →
         blocks (unit_of header) (at + length bytes) ≤ room_of header →
         All (IsBeside (unit_of header) at (length bytes)) (header_cell ∷ things_of pages) → IsDisk (wrote at bytes disk) →
         Holds header pages (wrote at bytes disk)
         × Same (map_of header pages (wrote at bytes disk).bytes) (map_of header pages disk.bytes)
-        × ((image said : List ℕ) → IsImage (writing at (length bytes) disk) image said → Gives image (map_of header pages disk.bytes)) }
+        × ((image said : List ℕ) → IsImage (writing at (length bytes) disk) image said → GivesFrom header.first image (map_of header pages disk.bytes)) }
     ensures commit { (header : Header) (old new : List Page) (disk : Disk) → Holds header old disk →
         (place : Cell) (cells : List CellWrite) → IsCommit header old new place cells disk →
         (image said : List ℕ) → NoneOrAll (with_log header place) cells disk image said →
         (said ≡ disk.said)
-        × (Gives image (map_of header old disk.bytes) ⊎ Gives image (map_of header new (put_cells cells disk.bytes))) }
+        × (GivesFrom header.first image (map_of header old disk.bytes) ⊎ GivesFrom header.first image (map_of header new (put_cells cells disk.bytes))) }
     ensures formed { (header : Header) (pages : List Page) (disk : Disk) → HasForm header [] pages disk.bytes →
         IsSynced disk → IsDisk disk → header.gate ≢ 1 → Holds header pages disk }
 {}

@@ -39,12 +39,14 @@ impl Model for SlotStore {
 }
 
 impl SlotStore {
-    ghost use Rattle.std.specs.Prelude.{◌≡◌};
+    ghost use Rattle.std.specs.Prelude.{◌≡◌, true};
+    ghost use Rattle.oc_layout.specs.Headers.{is_in_range};
     ghost use Rattle.oc_slots.specs.Stores.{session_place};
 
     /// What the first 128 bytes of the file spell.
     pub fn header(&self) -> Header
-        ensures { result ≡ self.now.header }
+        ensures is { result ≡ self.now.header }
+        ensures in_range { is_in_range result ≡ true }
     {
         self.header
     }

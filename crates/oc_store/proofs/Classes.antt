@@ -10,8 +10,8 @@ use Rattle.oc_model.specs.Maps.{Map, at}
 use Rattle.oc_model.specs.Stores.{Store, class_of}
 use Rattle.oc_index.specs.declared.items.ExtentItem.{ExtentItem}
 use Rattle.oc_index.specs.Ranges.{is_numbered}
-use Rattle.oc_store.specs.Filed.{class_in}
-use Rattle.oc_store.specs.Lists.{extents_of}
+use Rattle.oc_lists.specs.Lists.{class_in}
+use Rattle.oc_lists.specs.Lists.{extents_of}
 
 reversed : (r : Ordering) → is_eq (ordering_reverse r) ≡ is_eq r
 reversed Less = refl

@@ -15,7 +15,7 @@ use Rattle.oc_index.specs.Items.{extent_cmp}
 use Rattle.oc_index.specs.declared.items.ExtentItem.{ExtentItem}
 use Rattle.oc_catalog.specs.declared.catalog.ListEntry.{ListEntry}
 use Rattle.oc_slots.specs.Maps.{SlotMap}
-use Rattle.oc_store.specs.Listed.{extent_suits}
+use Rattle.oc_lists.specs.Keeping.{extent_suits}
 use Rattle.oc_store.specs.Lists.{AreNext, IsDamagedAt, SpellsExtents}
 use Rattle.oc_store.specs.Outlines.{named, named_lists, IsDamagedAmong, IsDamagedIn, IsIndex, IsSoundIn}
 use Rattle.oc_store.proofs.NamedLists.{each_map, each_unmap}

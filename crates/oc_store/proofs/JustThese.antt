@@ -17,15 +17,15 @@ use Rattle.oc_index.specs.Ranges.{is_numbered}
 use Rattle.oc_index.proofs.Ordered.{lt_of}
 use Rattle.oc_pages.specs.Order.{AreAscending}
 use Rattle.oc_store.specs.Outlines.{AreBelow, AreListed, HasJust}
-use Rattle.oc_store.proofs.IndexedKinds.{one_at}
+use Rattle.oc_lists.proofs.IndexedKinds.{one_at}
 use Rattle.oc_store.proofs.NamedLists.{pairs_map}
 
 -- ---- by place, and by recursion
 
-one_of : (ns : List ℕ) (n : ℕ) → Contains ns n → IsOneOf n ns
+pub one_of : (ns : List ℕ) (n : ℕ) → Contains ns n → IsOneOf n ns
 one_of ns n (k, lt, is) = subst (λ m. IsOneOf m ns) is (one_at ns k n lt)
 
-contains : (ns : List ℕ) (n : ℕ) → IsOneOf n ns → Contains ns n
+pub contains : (ns : List ℕ) (n : ℕ) → IsOneOf n ns → Contains ns n
 contains [] n one = absurd one
 contains (m ∷ ns) n (inl same) = (0, omega arith, sym same)
 contains (m ∷ ns) n (inr later) = let r = contains ns n later in (suc r.0, omega (arith, r.1), r.2)
@@ -92,7 +92,7 @@ one_listed n [] one = absurd one
 one_listed n (e ∷ es) (inl same) = or_left (is_numbered n e) (list_any (is_numbered n) es) (ap (λ k. is_eq (nat_cmp k n)) (sym same) ∙ ap is_eq (tied_itself nat_cmp_total n))
 one_listed n (e ∷ es) (inr later) = or_right (is_numbered n e) (list_any (is_numbered n) es) (one_listed n es later)
 
-same_truth : (a b : Bool) → (a ≡ true → b ≡ true) → (b ≡ true → a ≡ true) → a ≡ b
+pub same_truth : (a b : Bool) → (a ≡ true → b ≡ true) → (b ≡ true → a ≡ true) → a ≡ b
 same_truth true b to back = sym (to refl)
 same_truth false true to back = back refl
 same_truth false false to back = refl

@@ -5,7 +5,7 @@ use Rattle.std.specs.List.{list_any, list_all}
 use Rattle.std.specs.Ordering.{is_lt}
 use Rattle.std.specs.Cmp.{nat_cmp_is}
 use Rattle.std.specs.declared.cmp.Ordering.TheVariants.{Less, Equal, Greater}
-use Rattle.std.proofs.lemmas.Bool.{and_parts, cases_lt}
+use Rattle.std.proofs.lemmas.Bool.{and_parts, cases_lt, leb-true}
 use Rattle.std.proofs.lemmas.List.{length-map}
 use Rattle.oc_model.specs.declared.value.Base.{Base}
 use Rattle.oc_model.specs.declared.schema.FieldDef.{FieldDef}
@@ -20,7 +20,7 @@ use Rattle.oc_chunks.specs.Ascending.{Each, Pairs}
 use Rattle.oc_chunks.proofs.Eaches.{each_more}
 use Rattle.oc_catalog.specs.Catalogs.{indexed_ids, list_ids}
 use Rattle.oc_catalog.specs.declared.catalog.ListEntry.{ListEntry}
-use Rattle.oc_store.specs.Outlines.{bases_in}
+use Rattle.oc_lists.specs.Lists.{bases_in}
 
 -- ---- each, and pairs, through a map and a filter
 
@@ -44,7 +44,7 @@ each_filter : {X : Type 0} (P : X → Type 0) (t : X → Bool) (xs : List X) →
 each_filter P t [] a = tt
 each_filter P t (x ∷ xs) a = elim (t x) as (λ b. Each P (cond b (x ∷ filter t xs) (filter t xs))) [ true ↦ (a.0, each_filter P t xs a.1) | false ↦ each_filter P t xs a.1 ]
 
-pairs_filter : {X : Type 0} (R : X → X → Type 0) (t : X → Bool) (xs : List X) → Pairs R xs → Pairs R (filter t xs)
+pub pairs_filter : {X : Type 0} (R : X → X → Type 0) (t : X → Bool) (xs : List X) → Pairs R xs → Pairs R (filter t xs)
 pairs_filter R t [] p = tt
 pairs_filter R t (x ∷ xs) p = elim (t x) as (λ b. Pairs R (cond b (x ∷ filter t xs) (filter t xs))) [ true ↦ (each_filter (R x) t xs p.0, pairs_filter R t xs p.1) | false ↦ pairs_filter R t xs p.1 ]
 
@@ -70,14 +70,14 @@ each_placed P x (y ∷ ys) p a = elim (cases_lt y x) [
   | inr le ↦ subst (Each P) (sym (placed_before x y ys le)) (p, a)
 ]
 
-each_sorted : (P : ℕ → Type 0) (xs : List ℕ) → Each P xs → Each P (sorted nat_cmp xs)
+pub each_sorted : (P : ℕ → Type 0) (xs : List ℕ) → Each P xs → Each P (sorted nat_cmp xs)
 each_sorted P [] a = tt
 each_sorted P (x ∷ xs) a = each_placed P x (sorted nat_cmp xs) a.0 (each_sorted P xs a.1)
 
-abbrev Below : ℕ → ℕ → Type 0
+abbrev pub Below : ℕ → ℕ → Type 0
 Below m n = m < n
 
-abbrev Other : ℕ → ℕ → Type 0
+abbrev pub Other : ℕ → ℕ → Type 0
 Other m n = m ≢ n
 
 placed_ascends : (x : ℕ) (ys : List ℕ) → Each (Other x) ys → Pairs Below ys → Pairs Below (placed nat_cmp x ys)
@@ -87,7 +87,7 @@ placed_ascends x (y ∷ ys) other p = elim (cases_lt y x) [
   | inr le ↦ subst (Pairs Below) (sym (placed_before x y ys le)) (let lt : x < y = omega (arith, le, other.0) in ((lt, each_more (Below y) (Below x) ys (λ z below. omega (arith, lt, below)) p.0), p))
 ]
 
-sorted_ascends : (xs : List ℕ) → Pairs Other xs → Pairs Below (sorted nat_cmp xs)
+pub sorted_ascends : (xs : List ℕ) → Pairs Other xs → Pairs Below (sorted nat_cmp xs)
 sorted_ascends [] p = tt
 sorted_ascends (x ∷ xs) p = placed_ascends x (sorted nat_cmp xs) (each_sorted (Other x) xs p.0) (sorted_ascends xs p.1)
 
@@ -103,7 +103,7 @@ none_in : (n : ℕ) (ms : List ℕ) → list_any (nat_eq n) ms ≡ false → Eac
 none_in n [] e = tt
 none_in n (m ∷ ms) e = let p = neither (nat_eq n m) (list_any (nat_eq n) ms) e in ((λ same. true≢false (sym (eq-eqb n m same) ∙ p.0)), none_in n ms p.1)
 
-apart_pairs : (ns : List ℕ) → are_apart ns ≡ true → Pairs Other ns
+pub apart_pairs : (ns : List ℕ) → are_apart ns ≡ true → Pairs Other ns
 apart_pairs [] e = tt
 apart_pairs (n ∷ ns) e = let p = and_parts (not (list_any (nat_eq n) ns)) (are_apart ns) e in (none_in n ns (not_true _ p.0), apart_pairs ns p.1)
 
@@ -116,8 +116,15 @@ module _ (s : Schema) (rules : keeps_rules s ≡ true) where
   pub fields_apart : Pairs (λ (f : FieldDef) (g : FieldDef). f.id ≢ g.id) (indexed_fields s)
   fields_apart = pairs_filter (λ (f : FieldDef) (g : FieldDef). f.id ≢ g.id) (λ f. f.indexed) (all_fields s) (pairs_unmap id_of Other (all_fields s) (apart_pairs (map id_of (all_fields s)) (rules_kept s rules).ids))
 
-  -- each index has an id of its own, from 1 on
-  ids_apart : Pairs Other (indexed_ids s.classes)
+  -- the ids are drawn from 1 on
+  pub fields_drawn : Each (λ (f : FieldDef). 1 ≤ f.id) (indexed_fields s)
+  fields_drawn =
+      each_filter (λ (f : FieldDef). 1 ≤ f.id) (λ f. f.indexed) (all_fields s)
+      (each_more (λ (f : FieldDef). (nat_le 1 f.id && nat_lt f.id s.next_field) ≡ true) (λ (f : FieldDef). 1 ≤ f.id) (all_fields s) (λ f h. leb-true 1 f.id (and_parts _ _ h).0)
+      (each_passes (λ (f : FieldDef). nat_le 1 f.id && nat_lt f.id s.next_field) (all_fields s) (and_parts (nat_le 1 s.next_field) _ (rules_kept s rules).drawn).1))
+
+  -- each index has an id of its own
+  pub ids_apart : Pairs Other (indexed_ids s.classes)
   ids_apart = pairs_map id_of Other (indexed_fields s) fields_apart
 
   placed_first : (ys : List ℕ) → placed nat_cmp 0 ys ≡ 0 ∷ ys

@@ -33,11 +33,11 @@ pub one_index : (base : Base) (b : List ℕ) (xs ys : List IndexItem) → Spells
 one_index base = one_segment _ (index_stands (Some base)) (index_spelling (Some base)) (indexes_tell (Some base))
 
 module _ {X : Type 0} (Spelled : List X → List ℕ → Type 0) (only : (b : List ℕ) (xs ys : List X) → Spelled xs b → Spelled ys b → xs ≡ ys) (m : SlotMap) where
-  same_there : (o : Option (List ℕ)) (xs ys : List X) → IsSomeAnd o (Spelled xs) → IsSomeAnd o (Spelled ys) → xs ≡ ys
+  pub same_there : (o : Option (List ℕ)) (xs ys : List X) → IsSomeAnd o (Spelled xs) → IsSomeAnd o (Spelled ys) → xs ≡ ys
   same_there None xs ys p q = absurd p
   same_there (Some b) xs ys p q = only b xs ys p q
 
-  number_first : (c : Chunk X) (cs : List (Chunk X)) (n : ℕ) → c ≡ chunk_kept n c.entries → numbers (c ∷ cs) ≡ n ∷ numbers cs
+  pub number_first : (c : Chunk X) (cs : List (Chunk X)) (n : ℕ) → c ≡ chunk_kept n c.entries → numbers (c ∷ cs) ≡ n ∷ numbers cs
   number_first c cs n is = ap (λ d. numbers (d ∷ cs)) is
 
   pub same_chunks : (cs ds : List (Chunk X)) → Each (IsKept Spelled m) cs → Each (IsKept Spelled m) ds → numbers cs ≡ numbers ds → joined cs ≡ joined ds

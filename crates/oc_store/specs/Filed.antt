@@ -1,24 +1,15 @@
 -- What contracts see of a store in a file, and the two stores that it is.
-use Rattle.std.specs.Prelude.{◌≡◌, ℕ, ◌+◌, is_some, List, [], length, sum_by, Option, None, Some, option_map, find, IsSomeAnd}
-use Rattle.std.specs.Map.{lookup}
-use Rattle.std.specs.BTreeMap.{is_at}
+use Rattle.std.specs.Prelude.{◌≡◌, ◌≤◌, ℕ, Bool, false, List, [], length, sum_by, Option, None, Some, IsSomeAnd}
 use Rattle.std.specs.Option.{option_map_or}
-use Rattle.std.specs.Ordering.{nat_cmp}
 use Rattle.oc_host.specs.Disk.{Disk}
 use Rattle.oc_model.specs.declared.value.Rec.{Rec}
-use Rattle.oc_model.specs.declared.schema.FieldDef.{FieldDef}
-use Rattle.oc_model.specs.Lists.{IsOneOf}
 use Rattle.oc_model.specs.Maps.{at}
 use Rattle.oc_model.specs.Schemas.{Schema}
-use Rattle.oc_model.specs.Stores.{Store, class_of}
+use Rattle.oc_model.specs.Stores.{Store}
 use Rattle.oc_model.specs.StoreRules.{KeepsStore, Suits}
-use Rattle.oc_model.specs.Lengths.{indexed_fields}
 use Rattle.oc_marshal.specs.Records.{SpellsRecord}
 use Rattle.oc_chunks.specs.Chunks.{joined}
-use Rattle.oc_index.specs.declared.items.ExtentItem.{ExtentItem}
-use Rattle.oc_index.specs.Fields.{FieldList}
 use Rattle.oc_index.specs.Indexed.{StoreLists}
-use Rattle.oc_index.specs.Ranges.{is_numbered}
 use Rattle.oc_catalog.specs.declared.catalog.ListEntry.{ListEntry}
 use Rattle.oc_slots.specs.declared.slot.Side.{Side}
 use Rattle.oc_slots.specs.declared.slot.Side.TheVariants.{Committed, Session}
@@ -26,55 +17,53 @@ use Rattle.oc_slots.specs.declared.slot.SlotId.{SlotId}
 use Rattle.oc_slots.specs.Maps.{SlotMap}
 use Rattle.oc_slots.specs.Stores.{Slots, committed, committed_place, session, session_place}
 use Rattle.oc_slots.specs.Stores as slots
-use Rattle.oc_store.specs.Lists.{entries_of, extents_of, system_slot}
-use Rattle.oc_store.specs.Outlines.{HasIndexes, HasJust, IsMarked, IsOutline}
+use Rattle.oc_lists.specs.Keeping.{AreKept, AreNoted, Noted}
+use Rattle.oc_lists.specs.Lists.{class_in, lists_then, HasLists, IsMarked}
+use Rattle.oc_store.specs.Lists.{system_slot}
+use Rattle.oc_store.specs.Outlines.{IsOutline}
+use Rattle.oc_store.specs.Sides.{AreWritten, Heading, IsSide}
 use Rattle.oc_store.specs.Stands.{object_slot, Spells, SpellsObject}
 
 -- ---- the parts
 
--- the next number and the schema of a side
-pub record Heading : Type 0 where
-  pub next : ℕ
-  pub schema : Schema
-
--- The slots; the headings of both sides; the lists of the session, as they are and as the last commit left them; and of each object that changed since,
--- the class that the committed side has it in, or none.
+-- The slots, the headings of both sides, the lists of the session, as they are and as the last commit left them, and whether the session was changed since it
+-- began.
 pub record FiledStore : Type 0 where
   pub slots : Slots
   pub committed : Heading
   pub session : Heading
   pub lists : StoreLists
-  pub classes : List (ℕ × Option ℕ)
+  pub touched : Bool
+
+-- of two things, that of this side
+abbrev pub side_of : {X : Type 0} → Side → X → X → X
+side_of Committed then now = then
+side_of Session then now = now
 
 -- the heading of this side
 abbrev pub heading_on : Side → FiledStore → Heading
-heading_on Committed v = v.committed
-heading_on Session v = v.session
+heading_on side v = side_of side v.committed v.session
 
--- the class of the object of this number among these
-abbrev pub class_in : List ExtentItem → ℕ → Option ℕ
-class_in extents n = option_map (λ e. e.class) (find (is_numbered n) extents)
-
--- the class that the committed side has the object in: as it was noted if the object changed, and else as the extents have it
-abbrev pub class_noted : List (ℕ × Option ℕ) → Option ℕ → ℕ → Option ℕ
-class_noted classes session n = option_map_or (λ o. o) (lookup (is_at (nat_cmp n)) classes) session
+-- the lists of this side
+abbrev pub lists_on : Side → FiledStore → StoreLists
+lists_on side v = side_of side (lists_then v.lists) v.lists
 
 -- the class of an object of this side
 abbrev pub class_on : Side → FiledStore → ℕ → Option ℕ
-class_on Committed v n = class_noted v.classes (class_in (joined ((v.lists).extents).chunks) n) n
-class_on Session v n = class_in (joined ((v.lists).extents).chunks) n
-
--- the lists as the last commit left them
-abbrev pub lists_then : StoreLists → StoreLists
-lists_then l = record { extents = record { chunks = (l.extents).marked; marked = (l.extents).marked }; fields = l.marked; marked = l.marked }
+class_on side v n = class_in (joined ((lists_on side v).extents).chunks) n
 
 -- ---- what holds of every one
 
--- Each side has slots for just the objects that it has a class of, and the indexes are those of the session's schema.
-pub record IsFiled (s : Slots) (next : ℕ) (schema : Schema) (l : StoreLists) (classes : List (ℕ × Option ℕ)) : Type 0 where
-  pub just : HasJust (λ n. is_some (session_place s (object_slot n))) (joined (l.extents).chunks) next
-  pub committed : (n : ℕ) → is_some (committed_place s (object_slot n)) ≡ is_some (class_noted classes (class_in (joined (l.extents).chunks) n) n)
-  pub indexes : HasIndexes schema l
+-- Both sides hold together, each with its places, its heading and its lists. The session's next number is no smaller, and no slot of the system has changed. All
+-- that the last commit left is written, and what hasn't changed since is that. The classes that were noted lead to those of the last commit.
+pub record IsFiled (s : Slots) (then now : Heading) (l : StoreLists) (classes : Noted) : Type 0 where
+  pub committed : IsSide (committed_place s) then (lists_then l)
+  pub session : IsSide (session_place s) now l
+  pub later : then.next ≤ now.next
+  pub system : s.system ≡ []
+  pub written : AreWritten (lists_then l)
+  pub kept : AreKept l
+  pub noted : AreNoted classes (joined (l.extents).chunks) (joined (l.extents).marked)
 
 -- The file is what the store left: its slots are, and those of the committed side's catalog and segments spell the heading and the lists of the last
 -- commit.
@@ -84,11 +73,15 @@ pub record Agrees (v : FiledStore) (d : Disk) : Type 0 where
 
 -- Nothing has changed since the last commit: both sides are one.
 pub record IsFresh (v : FiledStore) : Type 0 where
+  pub untouched : v.touched ≡ false
   pub objects : (v.slots).objects ≡ []
   pub system : (v.slots).system ≡ []
   pub heading : v.session ≡ v.committed
   pub lists : IsMarked v.lists
-  pub classes : v.classes ≡ []
+
+-- a session that was never changed has nothing of its own
+abbrev pub IsUntouched : FiledStore → Type 0
+IsUntouched v = v.touched ≡ false → IsFresh v
 
 -- ---- the two stores
 
@@ -97,22 +90,18 @@ pub record IsHeading (h : Heading) (s : Store) : Type 0 where
   pub next : h.next ≡ s.next
   pub schema : h.schema ≡ s.schema
 
--- The store in the file is these two: the slots of the committed side spell the one, and those of the session the records of the other, whose schema,
--- next number and lists stand in memory.
+-- The slots spell the records of the store, whose next number, schema and lists are these.
+pub record IsStoreOf (m : SlotMap) (h : Heading) (l : StoreLists) (s : Store) : Type 0 where
+  pub keeps : KeepsStore s
+  pub objects : (n : ℕ) → SpellsObject (m (object_slot n)) (at s.records n)
+  pub heading : IsHeading h s
+  pub lists : HasLists l s
+
+-- The store in the file is these two, of which the slots of the committed side spell the first.
 pub record Shows (v : FiledStore) (d : Disk) (c s : Store) : Type 0 where
   pub spelled : Spells ((v.slots).header).first (committed v.slots d) c
-  pub committed : IsHeading v.committed c
-  pub classes : (n : ℕ) → class_on Committed v n ≡ class_of c n
-  pub keeps : KeepsStore s
-  pub objects : (n : ℕ) → SpellsObject (session v.slots d (object_slot n)) (at s.records n)
-  pub session : IsHeading v.session s
-  pub extents : joined ((v.lists).extents).chunks ≡ extents_of s
-  pub indexes : (f : FieldDef) → IsOneOf f (indexed_fields s.schema) → (l : FieldList) → IsOneOf (f.id, l) (v.lists).fields → joined l.chunks ≡ entries_of s f
-
--- the store of this side
-abbrev pub store_on : Side → Store → Store → Store
-store_on Committed c s = c
-store_on Session c s = s
+  pub committed : IsStoreOf (committed v.slots d) v.committed (lists_then v.lists) c
+  pub session : IsStoreOf (session v.slots d) v.session v.lists s
 
 -- ---- what is read of an object
 

@@ -4,3 +4,10 @@ pub mod Listed
 pub mod Outlines
 pub mod Filed
 pub mod Stands
+pub mod Sides
+pub mod Changed
+pub mod Stops
+pub mod Numbering
+pub mod Last
+pub mod Committing
+pub mod Reindexing

@@ -1,12 +1,11 @@
--- The lists of a store, and the slots that spell them.
-use Rattle.std.specs.Prelude.{◌≡◌, ℕ, Bool, false, List, [], ◌∷◌, ◌++◌, map, IsSomeAnd, None, Some, IsTrue}
+-- The slots that spell the lists of a store.
+use Rattle.std.specs.Prelude.{◌≡◌, ℕ, Bool, false, List, [], ◌∷◌, ◌++◌, IsSomeAnd, None, Some, IsTrue}
 use Rattle.std.specs.List.{list_all}
 use Rattle.std.specs.declared.cmp.Ordering.{Ordering}
 use Rattle.oc_model.specs.declared.value.Base.{Base}
 use Rattle.oc_model.specs.declared.schema.FieldDef.{FieldDef}
-use Rattle.oc_model.specs.Lists.{sorted, IsOneOf}
+use Rattle.oc_model.specs.Lists.{IsOneOf}
 use Rattle.oc_model.specs.Stores.{Store, base_of}
-use Rattle.oc_model.specs.Candidates.{index_of}
 use Rattle.oc_model.specs.Lengths.{indexed_fields}
 use Rattle.oc_layout.specs.declared.cells.Space.TheVariants.{System}
 use Rattle.oc_chunks.specs.Ascending.{Each, IsAscending}
@@ -19,18 +18,7 @@ use Rattle.oc_segments.specs.Segments.{SpellsSegment}
 use Rattle.oc_catalog.specs.declared.catalog.ListEntry.{ListEntry}
 use Rattle.oc_slots.specs.declared.slot.SlotId.{SlotId}
 use Rattle.oc_slots.specs.Maps.{SlotMap}
-
--- ---- what lists a store has
-
--- the objects of the store with their classes, by number
-abbrev pub extents_of : Store → List ExtentItem
-extents_of s = map (λ e. record { number = e.0; class = (e.1).class }) s.records
-
--- the index of a field: by the value, and equal values by the object's number
-abbrev pub entries_of : Store → FieldDef → List IndexItem
-entries_of s f = sorted index_cmp (map (λ e. record { key = e.0; number = e.1 }) (index_of s f))
-
--- ---- what slots spell
+use Rattle.oc_lists.specs.Lists.{entries_of, extents_of}
 
 -- the system's slot of this number: 1 is the catalog's, and the others are those of segments
 abbrev pub system_slot : ℕ → SlotId

@@ -1,11 +1,8 @@
 -- What the system's slots spell of a store: its next number, its schema and its lists. Which slot is told where they spell none.
 use Rattle.std.specs.Prelude.{◌≡◌, ◌⊎◌, ◌<◌, ℕ, Bool, is_some, List, [], ◌∷◌, ◌++◌, map, None, IsSomeAnd, IsTrue}
 use Rattle.std.specs.List.{list_any}
-use Rattle.std.specs.Ordering.{nat_cmp}
 use Rattle.oc_model.specs.declared.value.Base.{Base}
-use Rattle.oc_model.specs.Lists.{sorted, IsOneOf}
-use Rattle.oc_model.specs.Stores.{base_of}
-use Rattle.oc_model.specs.Lengths.{indexed_fields}
+use Rattle.oc_model.specs.Lists.{IsOneOf}
 use Rattle.oc_model.specs.Schemas.{Schema, empty_schema}
 use Rattle.oc_chunks.specs.Ascending.{Each}
 use Rattle.oc_chunks.specs.Chunks.{Chunk, joined, numbers}
@@ -17,17 +14,15 @@ use Rattle.oc_index.specs.Items.{extent_cmp, index_cmp}
 use Rattle.oc_index.specs.Ranges.{is_numbered}
 use Rattle.oc_catalog.specs.declared.catalog.Catalog.{Catalog}
 use Rattle.oc_catalog.specs.declared.catalog.ListEntry.{ListEntry}
-use Rattle.oc_catalog.specs.Catalogs.{indexed_ids, SpellsCatalog}
+use Rattle.oc_catalog.specs.Catalogs.{SpellsCatalog}
 use Rattle.oc_slots.specs.Maps.{SlotMap}
 use Rattle.oc_store.specs.Lists.{system_slot, SpellsExtents, SpellsIndex, AreNext, IsDamagedAt, IsSoundList}
-use Rattle.oc_store.specs.Listed.{extent_suits, index_suits}
+use Rattle.oc_lists.specs.Keeping.{extent_suits}
+use Rattle.oc_lists.specs.Lists.{bases_in}
+use Rattle.oc_store.specs.Listed.{index_suits}
 use Rattle.oc_store.specs.Stands.{object_slot}
 
 -- ---- the lists in memory
-
--- the indexed fields, each with the kind of its values
-abbrev pub bases_in : Schema → List (ℕ × Base)
-bases_in s = map (λ f. (f.id, base_of f.kind)) (indexed_fields s)
 
 -- the index of a field as a catalog names it
 abbrev pub named : ℕ × FieldList → ListEntry
@@ -36,17 +31,6 @@ named f = record { id = f.0; segments = numbers (f.1).chunks }
 -- the lists as a catalog names them
 abbrev pub named_lists : StoreLists → List ListEntry
 named_lists l = record { id = 0; segments = numbers (l.extents).chunks } ∷ map named l.fields
-
--- nothing changed in the lists since the mark
-pub record IsMarked (l : StoreLists) : Type 0 where
-  pub extents : (l.extents).marked ≡ (l.extents).chunks
-  pub fields : l.marked ≡ l.fields
-  pub each : Each (λ f. (f.1).marked ≡ (f.1).chunks) l.fields
-
--- There is just one index for each indexed field, in the order of their ids, and of the field's kind.
-pub record HasIndexes (s : Schema) (l : StoreLists) : Type 0 where
-  pub ids : map (λ f. f.0) l.fields ≡ sorted nat_cmp (indexed_ids s.classes)
-  pub bases : Each (λ f. IsOneOf (f.0, (f.1).base) (bases_in s)) l.fields
 
 -- ---- what slots spell
 

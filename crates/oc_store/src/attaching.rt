@@ -1,6 +1,6 @@
 //! A store is attached.
 
-ghost use Rattle.std.specs.Prelude.{◌≡◌, ◌⊎◌, ◌≤◌, ◌+◌, ◌*◌, ℕ, [], length, IsSomeAnd, IsTrue, IsErrOf, IfOk, OnOk};
+ghost use Rattle.std.specs.Prelude.{◌≡◌, ◌⊎◌, ◌≤◌, ◌+◌, ◌*◌, ℕ, false, [], length, IsSomeAnd, IsTrue, IsErrOf, IfOk, OnOk};
 ghost use Rattle.oc_host.specs.Counts.{Rose};
 ghost use Rattle.oc_host.specs.Disk.{LeavesOnly};
 ghost use Rattle.oc_layout.specs.declared.cells.Space.{Space as SpaceOf};
@@ -15,16 +15,16 @@ ghost use Rattle.oc_store.specs.declared.fault.StartFault.TheVariants as start_f
 ghost use Rattle.oc_store.specs.Filed.{segments_in, slot_len, Agrees, IsFiled, IsFresh, Shows};
 ghost use Rattle.oc_store.specs.Lists.{system_slot};
 ghost use Rattle.oc_store.specs.Outlines.{IsDamaged};
-ghost use Rattle.oc_store.specs.Stands.{StandsFrom};
+ghost use Rattle.oc_store.specs.Stands.{Stands};
+ghost use Rattle.oc_store.specs.Stops.{StillStands};
 
 use crate::fault::StartFault;
 use crate::outline::{Outline, read_outline};
-use crate::store::Store;
+use crate::store::{SessionState, Store};
 use oc_host::Host;
 use oc_model::laws_stores::empty_store_keeps_rules;
 use oc_slots::{Making, SlotStore};
 use std::alloc::Global;
-use std::collections::BTreeMap;
 
 impl Store {
     /// Attaches the store that the file stands for, or makes a container of the file where it is empty, and where it is to
@@ -32,8 +32,9 @@ impl Store {
     /// no object.
     ///
     /// `NotAContainer` comes as for the slots. `Damaged` tells the system's slot that is damaged first: the catalog's bytes
-    /// are judged, then the segments, and then whether the extents have just the objects that have slots. However it ends,
-    /// a stop since its first sync leaves a file that gives the slots that it gave.
+    /// are judged, then the segments, and then whether the extents have just the objects that have slots. It doesn't come for
+    /// a file that stands for a store. However it ends, a stop since its first sync leaves a file that stands for the store
+    /// that it stood for.
     pub fn attach<H: Host>(
         alloc: Global,
         host: &mut H,
@@ -43,13 +44,15 @@ impl Store {
         ensures agrees { IfOk result (λ store. IsTrue H.tells → Agrees store (H.disk host.new)) }
         ensures fresh { IfOk result IsFresh }
         ensures stands { IfOk result (λ store. IsTrue H.tells → (s : StoreOf) →
-            StandsFrom ((store.slots).header).first (H.disk host.old).bytes s → Shows store (H.disk host.new) s s) }
+            Stands (H.disk host.old).bytes s → Shows store (H.disk host.new) s s) }
         ensures made { IfOk result (λ store. IsTrue H.tells → MayBeMade making.now.anew (H.disk host.old).bytes →
             ((store.slots).header ≡ made_header making.now) × Shows store (H.disk host.new) (empty_store making.now.first) (empty_store making.now.first)) }
         ensures found { OnOk result (IsTrue H.tells →
             ((m : SlotMap) × Gives (H.disk host.old).bytes m) ⊎ MayBeMade making.now.anew (H.disk host.old).bytes) }
         ensures damaged { (space : SpaceOf) (n : ℕ) → IsErrOf result (start_fault.Damaged space n) → (space ≡ System) × (IsTrue H.tells →
             (m : SlotMap) → Gives (H.disk host.old).bytes m → IsDamaged m n) }
+        ensures sound { (space : SpaceOf) (n : ℕ) → IsErrOf result (start_fault.Damaged space n) → IsTrue H.tells →
+            (s : StoreOf) → Stands (H.disk host.old).bytes s → ⊥ }
         ensures no_map { IsErrOf result start_fault.NotAContainer → IsTrue H.tells →
             (m : SlotMap) → Gives (H.disk host.old).bytes m → ⊥ }
         ensures not_made { IsErrOf result start_fault.NotAContainer → IsTrue H.tells →
@@ -58,6 +61,8 @@ impl Store {
             (H.disk host.new).bytes ≡ (H.disk host.old).bytes }
         ensures any_moment { IsTrue H.tells →
             LeavesOnly (H.disk host.old) (H.disk host.new) (MayLeave making.now.anew (H.disk host.old)) }
+        ensures still { IsTrue H.tells → (s : StoreOf) → Stands (H.disk host.old).bytes s →
+            LeavesOnly (H.disk host.old) (H.disk host.new) (StillStands s (H.disk host.old)) }
         ensures later { H.faults host.old ≤ H.faults host.new }
         ensures cause { IsErrOf result start_fault.Host → Rose (H.faults host.old) (H.faults host.new) }
         ensures taken { IsTrue H.tells → (m : SlotMap) (gives : Gives (H.disk host.old).bytes m) (c : CatalogOf) → IsSomeAnd (m (system_slot 1)) (SpellsCatalog c) →
@@ -75,12 +80,13 @@ impl Store {
 
 // The store of these slots and this outline, of which both sides are one.
 fn opened(alloc: Global, slots: SlotStore, outline: Outline) -> Store
-    requires { IsFiled slots outline.next outline.schema outline.indexes [] }
+    requires filed { IsFiled slots (record { next = outline.next; schema = outline.schema }) (record { next = outline.next; schema = outline.schema }) outline.indexes [] }
+    requires fresh { IsFresh (record { slots = slots; committed = record { next = outline.next; schema = outline.schema }; session = record { next = outline.next; schema = outline.schema }; lists = outline.indexes; touched = false }) }
     ensures slots { result.slots ≡ slots }
     ensures committed { result.committed ≡ record { next = outline.next; schema = outline.schema } }
     ensures session { result.session ≡ record { next = outline.next; schema = outline.schema } }
     ensures lists { result.lists ≡ outline.indexes }
-    ensures classes { result.classes ≡ [] }
+    ensures touched { result.touched ≡ false }
 {
     let Outline {
         next,
@@ -92,9 +98,7 @@ fn opened(alloc: Global, slots: SlotStore, outline: Outline) -> Store
         slots,
         schema,
         next,
-        new_schema: None,
-        session_next: next,
         indexes,
-        classes: BTreeMap::new(alloc),
+        session: SessionState::unchanged(alloc, next),
     }
 }

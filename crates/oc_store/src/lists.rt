@@ -1,7 +1,8 @@
 //! The lists of a store, read from the segments that its catalog names.
 
-ghost use Rattle.std.specs.Prelude.{◌≡◌, ◌<◌, ◌≤◌, ◌+◌, ℕ, [], map, Some, IsSome, IsTrue, IsErrOf, IfOk, OnOk};
+ghost use Rattle.std.specs.Prelude.{◌≡◌, ◌<◌, ◌≤◌, ◌+◌, ℕ, [], map, None, Some, IsSome, IsTrue, IsErrOf, IfOk, OnOk};
 ghost use Rattle.std.specs.BTreeMap.{get};
+ghost use Rattle.std.specs.List.{list_all};
 ghost use Rattle.std.specs.Ordering.{nat_cmp};
 ghost use Rattle.oc_model.specs.declared.value.Base.{Base as BaseOf};
 ghost use Rattle.oc_model.specs.Lists.{IsOneOf};
@@ -10,21 +11,25 @@ ghost use Rattle.oc_host.specs.Disk.{Looks};
 ghost use Rattle.oc_layout.specs.declared.cells.Space.{Space as SpaceOf};
 ghost use Rattle.oc_layout.specs.declared.cells.Space.TheVariants.{System};
 ghost use Rattle.oc_chunks.specs.Ascending.{Each, Pairs};
-ghost use Rattle.oc_chunks.specs.Chunks.{numbers};
+ghost use Rattle.oc_chunks.specs.Chunks.{joined, numbers};
 ghost use Rattle.oc_index.specs.Items.{extent_cmp, index_cmp};
-ghost use Rattle.oc_catalog.specs.Catalogs.{list_ids};
+ghost use Rattle.oc_catalog.specs.Catalogs.{list_ids, segments_of};
+ghost use Rattle.oc_segments.specs.Items.{extent_fits, index_stands};
 ghost use Rattle.oc_slots.specs.Stores.{committed, Agrees};
 ghost use Rattle.oc_store.specs.declared.fault.ReadFault.TheVariants as read_fault;
-ghost use Rattle.oc_store.specs.Listed.{extent_suits, index_suits, lists_len, segments_len};
+ghost use Rattle.oc_lists.specs.Keeping.{extent_suits, list_numbers, AreWritable};
+ghost use Rattle.oc_store.specs.Listed.{index_suits, is_segment, lists_len, segments_len};
 ghost use Rattle.oc_store.specs.Lists.{AreNext, IsDamagedAt, SpellsExtents, SpellsIndex};
-ghost use Rattle.oc_store.specs.Outlines.{bases_in, named, named_lists, IsDamagedAmong, IsDamagedIn, IsIndex, IsMarked};
+ghost use Rattle.oc_lists.specs.Lists.{bases_in, IsMarked};
+ghost use Rattle.oc_store.specs.Outlines.{named, named_lists, IsDamagedAmong, IsDamagedIn, IsIndex};
+ghost use Rattle.oc_store.specs.Sides.{AreWritten, IsWritten};
 
-use crate::bases::bases_of;
 use crate::fault::ReadFault;
 use crate::segments::read_list;
 use oc_catalog::ListEntry;
 use oc_host::Host;
 use oc_index::{ExtentItem, Extents, FieldIndex, IndexItem, Indexes};
+use oc_lists::bases_of;
 use oc_schema::Schema;
 use oc_slots::SlotStore;
 use oc_value::Base;
@@ -42,6 +47,10 @@ fn read_extents<H: Host>(
     requires agrees { IsTrue H.tells → Agrees slots.now (H.disk host.old) }
     ensures numbers { IfOk result (λ e. numbers e.chunks ≡ segments.now) }
     ensures marked { IfOk result (λ e. e.marked ≡ e.chunks) }
+    ensures written { IfOk result (λ e. Each IsWritten e.chunks) }
+    ensures writable { IfOk result (λ e. IsTrue (list_all (extent_fits None) (joined e.chunks))) }
+    ensures classes { IfOk result (λ e. IsTrue (list_all (extent_suits schema.now) (joined e.chunks))) }
+    ensures there { OnOk result (IsTrue (list_all (is_segment slots.now) segments.now)) }
     ensures sound { IfOk result (λ e. IsTrue H.tells →
         AreNext SpellsExtents (committed slots.now (H.disk host.old)) extent_cmp (extent_suits schema.now) [] e.chunks) }
     ensures damaged { (space : SpaceOf) (n : ℕ) → IsErrOf result (read_fault.Damaged space n) → (space ≡ System) × (IsTrue H.tells →
@@ -72,6 +81,9 @@ fn read_index<H: Host>(
     ensures base { IfOk result (λ f. f.base ≡ base) }
     ensures numbers { IfOk result (λ f. numbers f.chunks ≡ segments.now) }
     ensures marked { IfOk result (λ f. f.marked ≡ f.chunks) }
+    ensures written { IfOk result (λ f. Each IsWritten f.chunks) }
+    ensures writable { IfOk result (λ f. IsTrue (list_all (index_stands (Some f.base)) (joined f.chunks))) }
+    ensures there { OnOk result (IsTrue (list_all (is_segment slots.now) segments.now)) }
     ensures sound { IfOk result (λ f. IsTrue H.tells →
         AreNext (SpellsIndex base) (committed slots.now (H.disk host.old)) index_cmp (index_suits schema.now) [] f.chunks) }
     ensures damaged { (space : SpaceOf) (n : ℕ) → IsErrOf result (read_fault.Damaged space n) → (space ≡ System) × (IsTrue H.tells →
@@ -104,6 +116,9 @@ fn read_field<H: Host>(
     ensures base { IfOk result (λ f. IsOneOf (list.now.id, f.base) (bases_in schema.now)) }
     ensures numbers { IfOk result (λ f. numbers f.chunks ≡ list.now.segments) }
     ensures marked { IfOk result (λ f. f.marked ≡ f.chunks) }
+    ensures written { IfOk result (λ f. Each IsWritten f.chunks) }
+    ensures writable { IfOk result (λ f. IsTrue (list_all (index_stands (Some f.base)) (joined f.chunks))) }
+    ensures there { OnOk result (IsTrue (list_all (is_segment slots.now) list.now.segments)) }
     ensures sound { IfOk result (λ f. IsTrue H.tells → IsIndex (committed slots.now (H.disk host.old)) schema.now (list.now.id, f)) }
     ensures damaged { (space : SpaceOf) (n : ℕ) → IsErrOf result (read_fault.Damaged space n) → (space ≡ System) × (IsTrue H.tells →
         IsDamagedIn (committed slots.now (H.disk host.old)) schema.now list.now n) }
@@ -138,6 +153,9 @@ fn read_fields<H: Host>(
     ensures named { OnOk result (map named indexes.new.fields ≡ lists.now) }
     ensures marked { OnOk result (indexes.new.marked ≡ indexes.new.fields) }
     ensures each { OnOk result (Each (λ f. (f.1).marked ≡ (f.1).chunks) indexes.new.fields) }
+    ensures written { OnOk result (Each (λ f. Each IsWritten (f.1).chunks) indexes.new.fields) }
+    ensures writable { OnOk result (Each (λ f. IsTrue (list_all (index_stands (Some (f.1).base)) (joined (f.1).chunks))) indexes.new.fields) }
+    ensures there { OnOk result (IsTrue (list_all (is_segment slots.now) (segments_of lists.now))) }
     ensures bases { OnOk result (Each (λ f. IsOneOf (f.0, (f.1).base) (bases_in schema.now)) indexes.new.fields) }
     ensures sound { OnOk result (IsTrue H.tells → Each (IsIndex (committed slots.now (H.disk host.old)) schema.now) indexes.new.fields) }
     ensures damaged { (space : SpaceOf) (n : ℕ) → IsErrOf result (read_fault.Damaged space n) → (space ≡ System) × (IsTrue H.tells →
@@ -168,6 +186,10 @@ pub(crate) fn read_lists<H: Host>(
     requires ids { map (λ l. l.id) lists.now ≡ list_ids schema.now.classes }
     ensures named { IfOk result (λ l. named_lists l ≡ lists.now) }
     ensures marked { IfOk result IsMarked }
+    ensures written { IfOk result AreWritten }
+    ensures writable { IfOk result AreWritable }
+    ensures classes { IfOk result (λ l. IsTrue (list_all (extent_suits schema.now) (joined (l.extents).chunks))) }
+    ensures there { IfOk result (λ l. IsTrue (list_all (is_segment slots.now) (list_numbers l))) }
     ensures bases { IfOk result (λ l. Each (λ f. IsOneOf (f.0, (f.1).base) (bases_in schema.now)) l.fields) }
     ensures extents { IfOk result (λ l. IsTrue H.tells →
         AreNext SpellsExtents (committed slots.now (H.disk host.old)) extent_cmp (extent_suits schema.now) [] (l.extents).chunks) }

@@ -1,21 +1,23 @@
 //! What is kept in memory of a store, read from its catalog and its segments.
 
-ghost use Rattle.std.specs.Prelude.{◌≡◌, ◌⊎◌, ◌≤◌, ◌+◌, ℕ, [], Some, is_some, IsSomeAnd, IsTrue, IsErrOf, IfOk};
+ghost use Rattle.std.specs.Prelude.{◌≡◌, ◌⊎◌, ◌≤◌, ◌+◌, ℕ, [], Some, IsSomeAnd, IsTrue, IsErrOf, IfOk};
 ghost use Rattle.oc_host.specs.Counts.{Rose};
 ghost use Rattle.oc_host.specs.Disk.{Looks};
 ghost use Rattle.oc_layout.specs.declared.cells.Space.{Space as SpaceOf};
 ghost use Rattle.oc_layout.specs.declared.cells.Space.TheVariants.{System};
 ghost use Rattle.oc_model.specs.Schemas.{empty_schema};
-ghost use Rattle.oc_chunks.specs.Chunks.{joined};
 ghost use Rattle.oc_catalog.specs.declared.catalog.Catalog.{Catalog as CatalogOf};
-ghost use Rattle.oc_catalog.specs.Catalogs.{SpellsCatalog};
+ghost use Rattle.oc_catalog.specs.Catalogs.{IsNext, SpellsCatalog};
 ghost use Rattle.oc_slots.specs.declared.slot.Side.TheVariants.{Committed};
 ghost use Rattle.oc_slots.specs.Stores.{committed, committed_place, length_on, Agrees};
 ghost use Rattle.oc_store.specs.declared.fault.ReadFault.TheVariants as read_fault;
-ghost use Rattle.oc_store.specs.Listed.{lists_len};
+ghost use Rattle.oc_store.specs.Last.{are_small};
+ghost use Rattle.oc_store.specs.Listed.{is_there, lists_len};
 ghost use Rattle.oc_store.specs.Lists.{system_slot};
-ghost use Rattle.oc_store.specs.Stands.{object_slot};
-ghost use Rattle.oc_store.specs.Outlines.{HasDamagedSegment, HasIndexes, HasJust, HasNoCatalog, IsDamaged, IsMarked, IsOutline};
+ghost use Rattle.oc_lists.specs.Keeping.{list_numbers, AreListsOf, AreNumbered};
+ghost use Rattle.oc_lists.specs.Lists.{IsMarked};
+ghost use Rattle.oc_store.specs.Outlines.{HasDamagedSegment, HasNoCatalog, IsDamaged, IsOutline};
+ghost use Rattle.oc_store.specs.Sides.{AreWritten, IsSide};
 
 use crate::checking::has_just;
 use crate::fault::ReadFault;
@@ -48,8 +50,8 @@ pub(crate) fn read_outline<H: Host>(
 ) -> Result<Outline, ReadFault>
     requires agrees { IsTrue H.tells → Agrees slots.now (H.disk host.old) }
     ensures outline { IfOk result (λ o. IsTrue H.tells → IsOutline (slots.now.header).first (committed slots.now (H.disk host.old)) o.next o.schema o.indexes) }
-    ensures just { IfOk result (λ o. HasJust (λ n. is_some (committed_place slots.now (object_slot n))) (joined ((o.indexes).extents).chunks) o.next) }
-    ensures indexes { IfOk result (λ o. HasIndexes o.schema o.indexes) }
+    ensures side { IfOk result (λ o. IsSide (committed_place slots.now) (record { next = o.next; schema = o.schema }) o.indexes) }
+    ensures written { IfOk result (λ o. AreWritten o.indexes) }
     ensures marked { IfOk result (λ o. IsMarked o.indexes) }
     ensures damaged { (space : SpaceOf) (n : ℕ) → IsErrOf result (read_fault.Damaged space n) → (space ≡ System) × (IsTrue H.tells →
         IsDamaged (committed slots.now (H.disk host.old)) n) }
@@ -73,7 +75,11 @@ pub(crate) fn read_outline<H: Host>(
 fn read_parts<H: Host>(alloc: Global, slots: &SlotStore, host: &mut H) -> Result<Outline, ReadFault>
     requires agrees { IsTrue H.tells → Agrees slots.now (H.disk host.old) }
     ensures outline { IfOk result (λ o. IsTrue H.tells → IsOutline (slots.now.header).first (committed slots.now (H.disk host.old)) o.next o.schema o.indexes) }
-    ensures indexes { IfOk result (λ o. HasIndexes o.schema o.indexes) }
+    ensures next { IfOk result (λ o. IsNext o.next) }
+    ensures lists { IfOk result (λ o. AreListsOf o.schema o.indexes) }
+    ensures numbered { IfOk result (λ o. AreNumbered (is_there slots.now) o.indexes) }
+    ensures small { IfOk result (λ o. IsTrue (are_small (list_numbers o.indexes))) }
+    ensures written { IfOk result (λ o. AreWritten o.indexes) }
     ensures marked { IfOk result (λ o. IsMarked o.indexes) }
     ensures damaged { (space : SpaceOf) (n : ℕ) → IsErrOf result (read_fault.Damaged space n) → (space ≡ System) × (IsTrue H.tells →
         ((n ≡ 1) × HasNoCatalog (committed slots.now (H.disk host.old))) ⊎ HasDamagedSegment (committed slots.now (H.disk host.old)) n) }
@@ -103,7 +109,11 @@ fn read_catalogued<H: Host>(
     requires agrees { IsTrue H.tells → Agrees slots.now (H.disk host.old) }
     requires bytes { IsTrue H.tells → committed slots.now (H.disk host.old) (system_slot 1) ≡ Some bytes.now }
     ensures outline { IfOk result (λ o. IsTrue H.tells → IsOutline (slots.now.header).first (committed slots.now (H.disk host.old)) o.next o.schema o.indexes) }
-    ensures indexes { IfOk result (λ o. HasIndexes o.schema o.indexes) }
+    ensures next { IfOk result (λ o. IsNext o.next) }
+    ensures lists { IfOk result (λ o. AreListsOf o.schema o.indexes) }
+    ensures numbered { IfOk result (λ o. AreNumbered (is_there slots.now) o.indexes) }
+    ensures small { IfOk result (λ o. IsTrue (are_small (list_numbers o.indexes))) }
+    ensures written { IfOk result (λ o. AreWritten o.indexes) }
     ensures marked { IfOk result (λ o. IsMarked o.indexes) }
     ensures damaged { (space : SpaceOf) (n : ℕ) → IsErrOf result (read_fault.Damaged space n) → (space ≡ System) × (IsTrue H.tells →
         ((n ≡ 1) × HasNoCatalog (committed slots.now (H.disk host.old))) ⊎ HasDamagedSegment (committed slots.now (H.disk host.old)) n) }

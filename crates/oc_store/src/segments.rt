@@ -1,6 +1,6 @@
 //! A list in segments, read and judged.
 
-ghost use Rattle.std.specs.Prelude.{◌≡◌, ◌≤◌, ◌+◌, ◌++◌, ◌∷◌, ℕ, Bool, List, [], length, map, flat_map, IsTrue, IsErrOf, IfOk, IfSome, IfNone};
+ghost use Rattle.std.specs.Prelude.{◌≡◌, ◌≤◌, ◌+◌, ◌++◌, ◌∷◌, ℕ, Bool, List, [], length, map, flat_map, IsTrue, IsErrOf, IfOk, IfSome, IfNone, OnOk};
 ghost use Rattle.std.specs.Bool.{OnTrue, OnFalse};
 ghost use Rattle.std.specs.List.{list_all};
 ghost use Rattle.oc_model.specs.Schemas.{Schema as SchemaOf};
@@ -15,7 +15,8 @@ ghost use Rattle.oc_segments.specs.Segments.{AreEntries, SpellsSegment};
 ghost use Rattle.oc_slots.specs.declared.slot.Side.TheVariants.{Committed};
 ghost use Rattle.oc_slots.specs.Stores.{committed, length_on, Agrees};
 ghost use Rattle.oc_store.specs.declared.fault.ReadFault.TheVariants as read_fault;
-ghost use Rattle.oc_store.specs.Listed.{extent_suits, index_suits, segments_len};
+ghost use Rattle.oc_lists.specs.Keeping.{extent_suits};
+ghost use Rattle.oc_store.specs.Listed.{index_suits, is_segment, segments_len};
 ghost use Rattle.oc_store.specs.Lists.{chunk_kept, system_slot, HasSegment, IsDamagedAt, IsNext, IsSoundList};
 
 use crate::fault::ReadFault;
@@ -27,6 +28,9 @@ use oc_slots::{Side, SlotId, SlotStore, Space};
 use oc_value::Base;
 use std::alloc::Global;
 
+/// The last number that a slot may have.
+const LAST_NUMBER: u32 = 2_147_483_646;
+
 /// An entry of a list that is judged when it is read.
 pub(crate) trait Listed: Item {
     ghost suits: { SchemaOf → Self → Bool };
@@ -37,7 +41,7 @@ pub(crate) trait Listed: Item {
 }
 
 impl Listed for ExtentItem {
-    ghost use Rattle.oc_store.specs.Listed.{extent_suits};
+    ghost use Rattle.oc_lists.specs.Keeping.{extent_suits};
 
     ghost suits = { extent_suits };
 
@@ -69,6 +73,9 @@ pub(crate) fn read_list<E: Listed, H: Host>(
     requires agrees { IsTrue H.tells → Agrees slots.now (H.disk host.old) }
     ensures list { IfOk result (λ v. IsList E.order (map chunk_read v.items)) }
     ensures numbers { IfOk result (λ v. numbers (map chunk_read v.items) ≡ segments.now) }
+    ensures writable { IfOk result (λ v. IsTrue (list_all (E.stands base) (joined (map chunk_read v.items)))) }
+    ensures suit { IfOk result (λ v. IsTrue (list_all (E.suits schema.now) (joined (map chunk_read v.items)))) }
+    ensures there { OnOk result (IsTrue (list_all (is_segment slots.now) segments.now)) }
     ensures sound { IfOk result (λ v. IsTrue H.tells →
         IsSoundList (SpellsSegment E.order (E.stands base) (E.spell base)) (committed slots.now (H.disk host.old)) E.order (E.suits schema.now) segments.now (map chunk_read v.items)) }
     ensures damaged { (space : SpaceOf) (n : ℕ) → IsErrOf result (read_fault.Damaged space n) → (space ≡ System) × (IsTrue H.tells →
@@ -103,6 +110,9 @@ fn read_next<E: Listed, H: Host>(
     requires agrees { IsTrue H.tells → Agrees slots.now (H.disk host.old) }
     requires list { IsList E.order (map chunk_read chunks.now) }
     ensures follows { IfOk result (λ v. Follows E.order (joined (map chunk_read chunks.now)) v.items) }
+    ensures writable { IfOk result (λ v. IsTrue (list_all (E.stands base) v.items)) }
+    ensures suit { IfOk result (λ v. IsTrue (list_all (E.suits schema.now) v.items)) }
+    ensures there { OnOk result (IsTrue (is_segment slots.now number)) }
     ensures next { IfOk result (λ v. IsTrue H.tells →
         IsNext (SpellsSegment E.order (E.stands base) (E.spell base)) (committed slots.now (H.disk host.old)) E.order (E.suits schema.now) (joined (map chunk_read chunks.now)) (chunk_kept number v.items)) }
     ensures damaged { (space : SpaceOf) (n : ℕ) → IsErrOf result (read_fault.Damaged space n) → (space ≡ System) × (n ≡ number) × (IsTrue H.tells → (entries : List E) →
@@ -129,7 +139,8 @@ fn read_entries<E: Listed, H: Host>(
     number: u32,
 ) -> Result<Vec<E>, ReadFault>
     requires agrees { IsTrue H.tells → Agrees slots.now (H.disk host.old) }
-    ensures entries { IfOk result (λ v. AreEntries E.order (E.fits base) v.items) }
+    ensures entries { IfOk result (λ v. AreEntries E.order (E.stands base) v.items) }
+    ensures there { OnOk result (IsTrue (is_segment slots.now number)) }
     ensures spelled { IfOk result (λ v. IsTrue H.tells →
         HasSegment (SpellsSegment E.order (E.stands base) (E.spell base)) (committed slots.now (H.disk host.old)) number v.items) }
     ensures only { IfOk result (λ v. IsTrue H.tells → (entries : List E) →
@@ -142,6 +153,9 @@ fn read_entries<E: Listed, H: Host>(
     ensures cause { IsErrOf result read_fault.Host → Rose (H.faults host.old) (H.faults host.new) }
     ensures taken { H.taken host.new ≤ H.taken host.old + length_on Committed slots.now (system_slot number) }
 {
+    if number > LAST_NUMBER {
+        return Err(damaged(number));
+    }
     let slot = system_slot(number);
     let Some(bytes) = slots.read(host, Side::Committed, slot)? else {
         return Err(damaged(number));

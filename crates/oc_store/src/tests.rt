@@ -240,3 +240,59 @@ fn what_is_damaged_first_is_told(rt: HostRuntime) -> Result<(), Fail> {
     }
     Ok(())
 }
+
+// Whether the bytes are refused as no container, and are as before.
+fn is_refused(alloc: Global, bytes: &[u8]) -> Result<bool, AllocError> {
+    let mut host = host_of(alloc, bytes)?;
+    Ok(match Store::attach(alloc, &mut host, &PLAIN) {
+        Err(StartFault::NotAContainer) => host.bytes() == bytes,
+        _ => false,
+    })
+}
+
+#[test]
+fn what_is_no_container_is_refused(rt: HostRuntime) -> Result<(), Fail> {
+    for (at, piece) in [
+        // the header: its first word, the form's number, the limit, and bytes that are to be 0
+        (0, b"\x58".as_slice()),
+        (4, b"\x02"),
+        (8, b"\xff"),
+        (24, b"\x01"),
+        (127, b"\x01"),
+        // the first page's link names that page
+        (1257, b"\0\0\x04\xe9\0\0\x04\0"),
+    ] {
+        let mut bytes = file(rt.alloc())?;
+        put(&mut bytes, at, piece);
+        assert!(rt; is_refused(rt.alloc(), &bytes)?, "at {at}");
+    }
+    Ok(())
+}
+
+#[test]
+fn what_is_not_read_may_be_anything(rt: HostRuntime) -> Result<(), Fail> {
+    for (at, piece) in [(32, b"\xff".as_slice()), (64, b"\x07")] {
+        let mut bytes = file(rt.alloc())?;
+        put(&mut bytes, at, piece);
+        let shown = attached(rt.alloc(), &bytes, &PLAIN)??;
+        assert_eq!(rt;
+            (shown.next, shown.session, shown.listed),
+            (2, Some(1), Some(1))
+        );
+    }
+    Ok(())
+}
+
+#[test]
+fn a_file_may_lack_its_closed_log(rt: HostRuntime) -> Result<(), Fail> {
+    let bytes = file(rt.alloc())?;
+    for len in [1, 127, 128, 1256, 2280] {
+        let (cut, _) = bytes.split_at(len.min(bytes.len()));
+        assert!(rt; is_refused(rt.alloc(), cut)?, "{len}");
+    }
+    for len in [2281, 2296, 2297] {
+        let (cut, _) = bytes.split_at(len.min(bytes.len()));
+        assert_eq!(rt; next_of(rt.alloc(), cut, &PLAIN)?, Ok(2), "{len}");
+    }
+    Ok(())
+}

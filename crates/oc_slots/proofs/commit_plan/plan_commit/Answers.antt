@@ -1,8 +1,9 @@
-use Rattle.std.proofs.Common.{◌≡◌, ◌∙◌, ◌≤◌, ◌+◌, ◌++◌, length, true, false, sym, ap, subst, rules, arith}
+use Rattle.std.proofs.Common.{◌≡◌, ◌∙◌, inl, inr, ◌≤◌, ◌+◌, ◌++◌, length, true, false, Some, None, sym, ap, subst, rules, arith}
 use Rattle.std.specs.Prelude.{IsErrOf}
 use Rattle.std.proofs.lemmas.Option.{IfSome_then}
 use Rattle.oc_layout.specs.Layout.{is_wide}
-use Rattle.oc_room.specs.Rooms.{Placed, IsSame, unplaced, placed}
+use Rattle.oc_model.specs.Space.{Shortage}
+use Rattle.oc_room.specs.Rooms.{Placed, IsSame, unplaced, placed, lacking}
 use Rattle.oc_room.proofs.Orders.{lacking_before}
 use Rattle.oc_slots.specs.declared.fault.SpaceFault.TheVariants as SpaceFault
 use Rattle.oc_slots.specs.declared.slot.SlotId.{SlotId}
@@ -10,7 +11,7 @@ use Rattle.oc_slots.specs.Slots.{cells_of, lengths_of}
 use Rattle.oc_slots.specs.Planning.{AreSlotsPlaced, moves}
 use Rattle.oc_slots.proofs.SessionSteps.{IsPlaced, few_fresh}
 use Rattle.oc_slots.proofs.PlanExists.{lengths_are_there}
-use Rattle.oc_slots.proofs.PlanMoves.{nothing_moves}
+use Rattle.oc_slots.proofs.PlanMoves.{brought_moves, nothing_moves, placed_or_none}
 use Rattle.oc_slots.proofs.PlanPlaces.{goes_back_still, opened_still}
 use Rattle.oc_slots.proofs.PlanSteps.{placed_so, few_words, slots_placed, moves_so, lengths_all, lacking_all, end_all, plan_is}
 use Rattle.oc_slots.proofs.commit_plan.plan_commit.Goals as goal
@@ -26,6 +27,23 @@ returns-in_err-placed-clause-full c need len limit full =
     let found = c.place_changes.ensures.full need len limit err in
     let there = lengths_are_there c.args.pages.now.pages c.args.overlay.now last (is_wide c.args.header.now) in
     (found.0, (lengths_of last ++ there.0, there.1, lacking_before room.unit room.limit (unplaced room) (lengths_of last) there.0 (record { need = need; length = len }) found.1))
+
+pub returns-in_err-placed-clause-some_moved : goal.returns-in_err-placed-clause-some_moved
+unfolding lacking
+returns-in_err-placed-clause-some_moved c need len limit full =
+    let room = c.args.room.now in
+    let pages = c.args.pages.now.pages in
+    let o = c.args.overlay.now in
+    let last = c.args.last.items in
+    let err : IsErrOf c.place_changes.result (SpaceFault.Full need len limit) = search rules in
+    let found = c.place_changes.ensures.full need len limit err in
+    elim (placed_or_none last c.requires.changes.distinct) [
+      | inl nothing ↦ absurd (fits (ap (lacking room.unit room.limit (unplaced room)) (sym nothing) ∙ found.1))
+      | inr some ↦ (some.0, brought_moves pages o last some.0 some.1)
+    ]
+  where
+    fits : {s : Shortage} → None ≡ Some s → ⊥
+    fits e = cc
 
 pub overflow_cast-others : goal.overflow_cast-others
 overflow_cast-others c =
@@ -107,6 +125,21 @@ returns-clause-full c need len limit full =
         lacking_all h pages o p room r c.args.fresh c.args.len c.args.last.items ps c.in_ok-placed.field-0.planned f cells c.in_ok-placed.ensures.placed c.in_ok-placed.ensures.room lens ∙ found.1.2,
       ),
     )
+
+pub returns-clause-some_moved : goal.returns-clause-some_moved
+returns-clause-some_moved c need len limit full =
+    let h = c.args.header.now in
+    let pages = c.args.pages.now in
+    let o = c.args.overlay.now in
+    let p = c.place_changes.new.overlay in
+    let room = c.args.room.now in
+    let r = c.place_changes.new.room in
+    let ps = c.in_ok-placed.field-0.placed.items in
+    let f : IsPlaced c.args.header.now c.args.pages.now c.args.overlay.now c.place_changes.new.overlay c.args.room.now c.place_changes.new.room c.args.fresh c.args.len c.args.last.items c.in_ok-placed.field-0.placed.items c.in_ok-placed.field-0.planned =
+    placed_so h pages o p room r c.args.fresh c.args.len c.args.last.items ps c.in_ok-placed.field-0.planned c.unit-unit.result c.requires.whole c.requires.changes c.in_ok-placed.ensures.changes c.in_ok-placed.ensures.sizes
+    c.in_ok-placed.ensures.open c.in_ok-placed.ensures.back c.in_ok-placed.ensures.planned (c.unit-unit.ensures.value ∙ c.requires.whole.page_unit) c.in_ok-placed.ensures.room_spare c.place_changes.ensures.same c.place_changes.ensures.unit c.place_changes.ensures.limit c.place_changes.ensures.is_room in
+    let found = c.in-Err.ensures.some_moved need len limit full in
+    (found.0, sym (moves_so h pages o p room r c.args.fresh c.args.len c.args.last.items ps c.in_ok-placed.field-0.planned f found.0) ∙ found.1)
 
 pub returns-in-Ok-clause-plan : goal.returns-in-Ok-clause-plan
 returns-in-Ok-clause-plan c =

@@ -11,10 +11,11 @@ use Rattle.oc_slots.specs.declared.turnover.Pointing.{Pointing}
 use Rattle.oc_slots.specs.Slots.{cells_of}
 use Rattle.oc_slots.specs.Stores.{fresh_of}
 use Rattle.oc_slots.specs.Planning.{log_length, end_over}
-use Rattle.oc_slots.specs.Turnovers.{numbers_in}
+use Rattle.oc_slots.specs.Turnovers.{is_moved, numbers_in}
 use Rattle.oc_slots.proofs.AddedPages.{missing_new, held_new}
 use Rattle.oc_slots.proofs.PlanGrounds.{later_some, apart_pages, few_freed}
 use Rattle.oc_slots.proofs.PlanLengths.{lengths_some}
+use Rattle.oc_slots.proofs.PlanMoves.{one_moves}
 use Rattle.oc_slots.proofs.PlanRests.{turned, lengths_known, log_of, added_count, cells_whole, log_len, log_fits, opened_there, order_there}
 use Rattle.std.proofs.lemmas.Bool.Decides.{nat_tests}
 use Rattle.oc_slots.proofs.commit_plan.plan_rest.Goals as goal
@@ -113,3 +114,13 @@ returns-in_err-cells-clause-full c need len limit full =
     let err : IsErrOf c.place_log.result (SpaceFault.Full need len limit) = search rules in
     let found = c.place_log.ensures.full need len limit err in
     (found.0, (c.deref-4.result.now, known, found.1))
+
+pub returns-in_err-cells-clause-some_moved : goal.returns-in_err-cells-clause-some_moved
+returns-in_err-cells-clause-some_moved c need len limit full =
+    let pages = c.args.pages.now.pages in
+    let o = c.args.overlay.now in
+    let changes = c.args.changes.items in
+    let ps = c.in_ok-turnover.turnover.pointings.items in
+    let t = turned c.args.pages.now.unit (unit_of c.args.header.now) pages o c.deref.result.now changes ps c.in_ok-turnover.turnover.freed.items c.in_ok-turnover.ensures c.requires.page_unit c.deref.ensures.value in
+    let some : 0 < length c.in_ok-turnover.turnover.pointings.items = grind (arith, nat_tests, c.is_empty.ensures, c.if-is_empty.false) in
+    one_moves ps (is_moved pages o changes) (omega (arith, some)) t.moved

@@ -1,17 +1,12 @@
-use Rattle.std.proofs.Common.{◌≡◌, ◌∙◌, ◌+◌, ◌*◌, ◌≤◌, ◌<◌, ℕ, List, [], ◌∷◌, length, sym, ap, subst, arith}
-use Rattle.oc_layout.specs.declared.cells.Header.{Header}
+use Rattle.std.proofs.Common.{◌≡◌, ◌∙◌, sym, ap, subst}
 use Rattle.oc_layout.specs.Layout.{unit_of}
-use Rattle.oc_host.specs.Disk.{Disk, LeavesOnly, over}
-use Rattle.oc_pages.specs.declared.page.Page.{Page}
-use Rattle.oc_slots.specs.declared.run.Run.{Run}
+use Rattle.oc_host.specs.Disk.{LeavesOnly}
 use Rattle.oc_slots.specs.Held.{Holds, map_of}
-use Rattle.oc_slots.specs.Maps.{Same}
-use Rattle.oc_slots.specs.Pieces.{as_pieces, over_all, pieces_of, Fit}
-use Rattle.oc_slots.specs.Planning.{IsWritable, AreFit, slot_pieces, page_pieces}
+use Rattle.oc_slots.specs.Pieces.{as_pieces, over_all, pieces_of}
+use Rattle.oc_slots.specs.Planning.{AreFit, slot_pieces, page_pieces}
 use Rattle.oc_slots.specs.Turnovers.{page_slots}
 use Rattle.oc_slots.specs.Writing.{AreFree, Keeps, Before}
 use Rattle.oc_slots.proofs.CommitWrites.{runs_leave, held, slots_size, pages_leave, may, log_leaves, holds_then, map_then, size_then}
-use Rattle.oc_slots.proofs.Headers.{unit_some}
 use Rattle.oc_slots.proofs.commit_writing.write_commit.Goals as goal
 
 pub returns-in_err-write_runs-clause-any_moment : goal.returns-in_err-write_runs-clause-any_moment

@@ -9,7 +9,7 @@ use Rattle.oc_slots.specs.Turnovers.{with_added}
 use Rattle.oc_slots.specs.Planning.{pages_after}
 use Rattle.oc_slots.proofs.Noted.{owners_append}
 use Rattle.oc_slots.proofs.Releases.{free_front, free_on, one_taken, one_given}
-use Rattle.oc_slots.proofs.InstallParts.{given_free, given_addresses, given_full, given_whole}
+use Rattle.oc_slots.proofs.InstallParts.{given_free, given_addresses, given_whole}
 use Rattle.oc_slots.proofs.installing.install.Goals as goal
 
 pub point-requires-clause-addresses : goal.point-requires-clause-addresses

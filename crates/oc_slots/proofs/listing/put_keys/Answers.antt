@@ -1,5 +1,5 @@
-use Rattle.std.proofs.Common.{◌≡◌, ◌∙◌, ◌++◌, [], ◌∷◌, ◌+◌, ◌<◌, map, take, sym, ap, subst, refl, arith, append-nil}
-use Rattle.oc_slots.proofs.Numbers.{key_of, keys_more, keys_whole}
+use Rattle.std.proofs.Common.{◌∙◌, ◌++◌, [], ◌∷◌, sym, arith, append-nil}
+use Rattle.oc_slots.proofs.Numbers.{keys_more, keys_whole}
 use Rattle.oc_slots.proofs.listing.put_keys.Goals as goal
 
 pub loop-index-init : goal.loop-index-init

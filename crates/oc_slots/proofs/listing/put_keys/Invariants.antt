@@ -1,4 +1,4 @@
-use Rattle.std.proofs.Common.{◌≡◌, ◌++◌, ℕ, map, take}
+use Rattle.std.proofs.Common.{◌≡◌, ◌++◌, map, take}
 use Rattle.oc_slots.proofs.Numbers.{key_of}
 use Rattle.oc_slots.proofs.listing.put_keys.Given as goal
 

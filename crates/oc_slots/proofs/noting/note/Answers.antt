@@ -1,9 +1,7 @@
-use Rattle.std.proofs.Common.{◌≡◌, ◌∙◌, ℕ, ◌+◌, ◌≤◌, cond, List, [], ◌∷◌, ◌++◌, length, Option, Some, None, sym, ap, subst, refl, arith, length-append, rules}
+use Rattle.std.proofs.Common.{◌≡◌, ◌∙◌, [], ◌∷◌, length, sym, ap, arith, length-append}
 use Rattle.std.specs.Option.{option_flatten}
-use Rattle.oc_layout.specs.declared.cells.Cell.{Cell}
-use Rattle.oc_room.specs.Rooms.{owns, owners}
+use Rattle.oc_room.specs.Rooms.{owners}
 use Rattle.oc_slots.specs.Slots.{cell_list}
-use Rattle.oc_slots.specs.Stores.{fresh_of}
 use Rattle.oc_slots.specs.Noting.{noted_cells}
 use Rattle.oc_slots.proofs.Noted.{put_fresh, fresh_contained, owners_append, few_noted, noted_some, noted_within, noted_taken, noted_one}
 use Rattle.oc_slots.proofs.noting.note.Goals as goal

@@ -1,8 +1,7 @@
-use Rattle.std.proofs.Common.{◌≡◌, ◌∙◌, ℕ, ◌+◌, ◌≤◌, List, [], ◌∷◌, ◌++◌, length, take, drop, sym, ap, subst, refl, arith}
+use Rattle.std.proofs.Common.{◌≡◌, ◌∙◌, ℕ, ◌+◌, ◌≤◌, List, [], ◌++◌, length, drop, sym, ap, subst, refl, arith}
 use Rattle.std.specs.Prelude.{Contains}
-use Rattle.std.proofs.lemmas.List.{take_all, drop_all, append-nil}
+use Rattle.std.proofs.lemmas.List.{take_all, drop_all}
 use Rattle.std.proofs.lemmas.List.Elements.{Contains-append_left}
-use Rattle.oc_layout.specs.declared.cells.Cell.{Cell}
 use Rattle.oc_free.specs.FreeParts.{free_at}
 use Rattle.oc_room.specs.Rooms.{owners}
 use Rattle.oc_slots.specs.declared.placed.PlacedChange.{PlacedChange}

@@ -1,4 +1,4 @@
-use Rattle.std.proofs.Common.{◌≡◌, ◌∙◌, ◌+◌, ◌-◌, ◌++◌, drop, replicate, subst}
+use Rattle.std.proofs.Common.{◌≡◌, ◌∙◌, ◌-◌, ◌++◌, drop, replicate, subst}
 use Rattle.oc_host.specs.Disk.{AfterWrite}
 use Rattle.oc_slots.proofs.PageWrites.{last_zeros}
 use Rattle.oc_slots.proofs.page_writing.write_padded.Goals as goal

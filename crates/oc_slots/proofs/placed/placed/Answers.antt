@@ -1,4 +1,4 @@
-use Rattle.std.proofs.Common.{rules, ◌≡◌, ◌∙◌, ◌≤◌, map, length, ◌++◌, [], ◌∷◌, ap, subst, sym, refl, append-nil}
+use Rattle.std.proofs.Common.{◌≡◌, ◌∙◌, ◌≤◌, map, length, ◌++◌, [], ◌∷◌, ap, subst, sym}
 use Rattle.std.proofs.lemmas.List.{append_assoc, map-append}
 use Rattle.oc_slots.specs.declared.placed.PlacedChange.{PlacedChange}
 use Rattle.oc_slots.specs.Slots.{change_of, lengths_of}

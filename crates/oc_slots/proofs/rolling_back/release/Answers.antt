@@ -1,4 +1,4 @@
-use Rattle.std.proofs.Common.{◌≡◌, [], ◌∷◌, ap, subst}
+use Rattle.std.proofs.Common.{subst}
 use Rattle.oc_slots.specs.Slots.{cell_list}
 use Rattle.oc_slots.specs.Noting.{GoFree}
 use Rattle.oc_slots.proofs.Releases.{one_taken}

@@ -1,6 +1,6 @@
 use Rattle.std.proofs.Common.{◌≡◌, ◌≤◌, ◌+◌, ℕ, length, drop}
 use Rattle.oc_free.specs.FreeParts.{free_at}
-use Rattle.oc_room.specs.Rooms.{IsRoom, owners}
+use Rattle.oc_room.specs.Rooms.{owners}
 use Rattle.oc_slots.specs.Slots.{places_in}
 use Rattle.oc_slots.specs.Noting.{GoFree}
 use Rattle.oc_slots.proofs.rolling_back.release_all.Given as goal

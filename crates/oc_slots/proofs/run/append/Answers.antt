@@ -1,4 +1,4 @@
-use Rattle.std.proofs.Common.{◌≡◌, ◌∙◌, inl, inr, ◌+◌, List, [], ◌∷◌, ◌++◌, length, replicate, sym, ap, subst, refl}
+use Rattle.std.proofs.Common.{◌≡◌, ◌∙◌, inl, inr, [], ◌∷◌, ◌++◌, replicate, sym, ap, subst}
 use Rattle.std.proofs.lemmas.List.{map-append}
 use Rattle.oc_slots.specs.declared.run.Run.{Run}
 use Rattle.oc_slots.specs.Pieces.{Piece, as_pieces, AreJoined}

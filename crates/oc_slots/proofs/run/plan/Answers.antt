@@ -1,6 +1,6 @@
-use Rattle.std.proofs.Common.{◌≡◌, ◌∙◌, ◌+◌, ◌<◌, List, [], ◌∷◌, ◌++◌, length, take, None, sym, ap, subst, refl, arith}
+use Rattle.std.proofs.Common.{take, sym, subst}
 use Rattle.oc_slots.specs.Slots.{slots_of}
-use Rattle.oc_slots.specs.Pieces.{as_pieces, pieces_of, IsPlanned, AreJoined}
+use Rattle.oc_slots.specs.Pieces.{IsPlanned}
 use Rattle.oc_slots.proofs.PlacedSlots.{slots_more, slots_whole}
 use Rattle.oc_slots.proofs.Plans.{none_planned}
 use Rattle.oc_slots.proofs.run.plan.Goals as goal

@@ -1,4 +1,4 @@
-use Rattle.std.proofs.Common.{◌≡◌, ◌∙◌, ◌+◌, ◌≤◌, ℕ, List, [], ◌∷◌, length, drop, Result, sym, ap, subst, refl, arith, rules}
+use Rattle.std.proofs.Common.{◌≡◌, ◌∙◌, ◌+◌, ◌≤◌, ℕ, List, [], length, drop, ap, subst, refl, arith}
 use Rattle.std.proofs.lemmas.List.{drop_all, length-map}
 use Rattle.oc_slots.specs.declared.run.Run.{Run}
 use Rattle.oc_host.specs.Disk.{AfterWrite, wrote}

@@ -1,18 +1,26 @@
-use Rattle.std.proofs.Common.{◌≡◌, ◌<◌, ◌∙◌, ◌++◌, ◌∷◌, [], ℕ, List, length, ap, sym, subst, arith, rules, map, get_or}
-use Rattle.std.specs.Prelude.{IsErrOf}
+use Rattle.std.proofs.Common.{◌≡◌, ◌<◌, ◌∙◌, ◌++◌, ◌∷◌, [], ℕ, Some, length, ap, sym, subst, arith, rules, map}
+use Rattle.std.specs.Prelude.{IsErrOf, IsTrue}
+use Rattle.std.specs.List.{list_all}
+use Rattle.std.proofs.lemmas.List.{take_all}
 use Rattle.oc_host.proofs.Moments.{looks_then}
 use Rattle.oc_model.specs.declared.value.Base.{Base}
 use Rattle.oc_model.specs.Lists.{placed, IsOneOf}
 use Rattle.oc_chunks.specs.Ascending.{Each}
+use Rattle.oc_chunks.specs.Chunks.{joined}
 use Rattle.oc_chunks.proofs.Eaches.{each_append, each_at}
 use Rattle.oc_index.specs.Fields.{FieldList}
 use Rattle.oc_index.specs.Indexed.{field_cmp, undone}
 use Rattle.oc_catalog.specs.declared.catalog.ListEntry.{ListEntry}
+use Rattle.oc_catalog.specs.Catalogs.{segments_of}
+use Rattle.oc_segments.specs.Items.{index_stands}
 use Rattle.oc_slots.specs.Held.{map_of}
 use Rattle.oc_store.specs.declared.fault.ReadFault.TheVariants as read_fault
-use Rattle.oc_store.specs.Listed.{segments_len}
-use Rattle.oc_store.specs.Outlines.{bases_in, named, IsDamagedAmong, IsDamagedIn, IsIndex}
+use Rattle.oc_store.specs.Listed.{is_segment, segments_len}
+use Rattle.oc_lists.specs.Lists.{bases_in}
+use Rattle.oc_store.specs.Outlines.{named, IsDamagedIn, IsIndex}
 use Rattle.oc_store.proofs.FieldLists.{all_below, damaged_next, named_more, placed_last, undone_same}
+use Rattle.oc_store.specs.Sides.{IsWritten}
+use Rattle.oc_store.proofs.Gathered.{segments_more}
 use Rattle.oc_store.proofs.Readings.{rest_more}
 use Rattle.oc_store.proofs.lists.read_fields.Goals as goal
 
@@ -60,6 +68,10 @@ loop-list-preserved g c =
       named = ap (map named) grown ∙ named_more c.args.lists.now i lt list c.list-item.is fs inv.named index c.in_ok-index.ensures.numbers;
       marked = marked ∙ sym grown;
       each = subst (Each (λ (f : ℕ × FieldList). (f.1).marked ≡ (f.1).chunks)) (sym grown) (each_append (λ (f : ℕ × FieldList). (f.1).marked ≡ (f.1).chunks) fs ((list.id, index) ∷ []) inv.each (c.in_ok-index.ensures.marked, tt));
+      written = subst (Each (λ (f : ℕ × FieldList). Each IsWritten (f.1).chunks)) (sym grown) (each_append (λ (f : ℕ × FieldList). Each IsWritten (f.1).chunks) fs ((list.id, index) ∷ []) inv.written (c.in_ok-index.ensures.written, tt));
+      writable = subst (Each (λ (f : ℕ × FieldList). IsTrue (list_all (index_stands (Some (f.1).base)) (joined (f.1).chunks)))) (sym grown)
+          (each_append (λ (f : ℕ × FieldList). IsTrue (list_all (index_stands (Some (f.1).base)) (joined (f.1).chunks))) fs ((list.id, index) ∷ []) inv.writable (c.in_ok-index.ensures.writable, tt));
+      there = segments_more (is_segment s) c.args.lists.now i list lt c.list-item.is inv.there c.in_ok-index.ensures.there;
       bases = subst (Each (λ (f : ℕ × FieldList). IsOneOf {X = ℕ × Base} (f.0, (f.1).base) (bases_in c.args.schema.now))) (sym grown)
           (each_append (λ (f : ℕ × FieldList). IsOneOf {X = ℕ × Base} (f.0, (f.1).base) (bases_in c.args.schema.now)) fs ((list.id, index) ∷ []) inv.bases (c.in_ok-index.ensures.base, tt));
       sound = λ told.
@@ -71,3 +83,6 @@ loop-list-preserved g c =
       later = omega (arith, inv.later, c.read_field.ensures.later);
       taken = omega (arith, inv.taken, c.read_field.ensures.taken, rest_more (λ (l : ListEntry). segments_len s l.segments) c.args.lists.now i list list lt c.list-item.is);
     }
+
+pub returns-clause-there : goal.returns-clause-there
+returns-clause-there g c = subst (λ ls. IsTrue (list_all (is_segment c.args.slots.now) (segments_of ls))) (take_all c.loop-list.list-index c.args.lists.now (omega arith)) c.loop-list.invariant.there

@@ -1,8 +1,8 @@
-use Rattle.std.proofs.Common.{◌≡◌, ◌<◌, ◌∙◌, ℕ, List, [], ◌∷◌, ◌++◌, length, get_or, ap, sym, subst, refl, arith, rules, map, take}
-use Rattle.std.specs.Prelude.{IsErrOf}
+use Rattle.std.proofs.Common.{◌≡◌, ◌<◌, ◌∙◌, [], ◌∷◌, ◌++◌, length, get_or, ap, sym, subst, refl, arith, rules, map}
+use Rattle.std.specs.Prelude.{IsErrOf, IsTrue}
+use Rattle.std.specs.List.{list_all}
 use Rattle.std.proofs.lemmas.List.{take_all}
 use Rattle.oc_host.proofs.Moments.{looks_then}
-use Rattle.oc_layout.specs.declared.cells.Space.TheVariants.{System}
 use Rattle.oc_chunks.specs.Chunks.{joined}
 use Rattle.oc_chunks.specs.declared.opening.Written.{Written}
 use Rattle.oc_chunks.specs.Opening.{chunk_read, Follows, IsList}
@@ -11,8 +11,10 @@ use Rattle.oc_slots.specs.Held.{map_of}
 use Rattle.oc_slots.specs.declared.slot.Side.TheVariants.{Committed}
 use Rattle.oc_slots.specs.Stores.{length_on}
 use Rattle.oc_store.specs.declared.fault.ReadFault.TheVariants as read_fault
+use Rattle.oc_store.specs.Listed.{is_segment}
 use Rattle.oc_store.specs.Lists.{chunk_kept, system_slot, AreNext, IsDamagedAt, IsNext}
 use Rattle.oc_store.proofs.Ends.{mapped}
+use Rattle.oc_store.proofs.Gathered.{all_further, all_joined}
 use Rattle.oc_store.proofs.Readings.{all_read, list_more, next_more, numbers_of, numbers_read, read_damaged, read_more, rest_more}
 use Rattle.oc_store.proofs.segments.read_list.Goals as goal
 
@@ -49,6 +51,9 @@ loop-number-preserved g c =
     record {
       list = subst (λ l. IsList g.E.Entry.order (map chunk_read l)) (sym grown) (list_more g.E.Entry.order ws w inv.list (subst (λ l. Follows g.E.Entry.order (joined (map chunk_read l)) w.entries.items) c.deref.ensures.value c.in_ok-entries.ensures.follows));
       numbers = ap numbers_of grown ∙ read_more (SpellsSegment g.E.Entry.order (g.E.Item.stands c.args.base) (g.E.Item.spell c.args.base)) (map_of s.header s.pages []) g.E.Entry.order (g.E.Listed.suits c.args.schema.now) ws c.args.segments.now i n lt refl inv.numbers w refl;
+      writable = subst (λ l. IsTrue (list_all (g.E.Item.stands c.args.base) (joined (map chunk_read l)))) (sym grown) (all_joined (g.E.Item.stands c.args.base) ws w inv.writable c.in_ok-entries.ensures.writable);
+      suit = subst (λ l. IsTrue (list_all (g.E.Listed.suits c.args.schema.now) (joined (map chunk_read l)))) (sym grown) (all_joined (g.E.Listed.suits c.args.schema.now) ws w inv.suit c.in_ok-entries.ensures.suit);
+      there = all_further (is_segment s) c.args.segments.now i 0 lt inv.there c.in_ok-entries.ensures.there;
       sound = λ told.
           subst (λ l. AreNext (SpellsSegment g.E.Entry.order (g.E.Item.stands c.args.base) (g.E.Item.spell c.args.base)) (map_of s.header s.pages (g.H.Host.disk c.args.host.now).bytes) g.E.Entry.order (g.E.Listed.suits c.args.schema.now) [] l) (sym (ap (map chunk_read) grown ∙ mapped ws w))
           (next_more (SpellsSegment g.E.Entry.order (g.E.Item.stands c.args.base) (g.E.Item.spell c.args.base)) (map_of s.header s.pages (g.H.Host.disk c.args.host.now).bytes) g.E.Entry.order (g.E.Listed.suits c.args.schema.now) [] (map chunk_read ws) (chunk_read w) (inv.sound told)
@@ -69,3 +74,6 @@ pub returns-clause-numbers : goal.returns-clause-numbers
 returns-clause-numbers g c =
     let inv = c.loop-number.invariant in
     numbers_read c.loop-number.chunks.items ∙ inv.numbers ∙ take_all c.loop-number.number-index c.args.segments.now (omega arith)
+
+pub returns-clause-there : goal.returns-clause-there
+returns-clause-there g c = subst (λ ns. IsTrue (list_all (is_segment c.args.slots.now) ns)) (take_all c.loop-number.number-index c.args.segments.now (omega arith)) c.loop-number.invariant.there

@@ -1,5 +1,5 @@
-use Rattle.std.proofs.Common.{◌≡◌, ◌∙◌, ◌+◌, ◌-◌, ◌*◌, max, List, [], ◌∷◌, ◌++◌, length, replicate, sym, ap, subst, refl}
-use Rattle.oc_slots.specs.Pieces.{Piece, as_pieces, piece_of, end_of, AreJoined}
+use Rattle.std.proofs.Common.{◌∙◌, ◌+◌, ◌-◌, ◌*◌, max, List, [], ◌∷◌, ◌++◌, length, replicate, ap, subst, refl}
+use Rattle.oc_slots.specs.Pieces.{Piece, as_pieces, piece_of, AreJoined}
 use Rattle.oc_slots.proofs.Plans.{plan_last}
 use Rattle.oc_slots.proofs.run.Planned.add.Goals as goal
 

@@ -1,14 +1,14 @@
-use Rattle.std.proofs.Common.{◌∙◌, ◌⊎◌, List, sym, ap, subst, arith}
+use Rattle.std.proofs.Common.{◌≡◌, ◌∙◌, ◌⊎◌, ℕ, List, sym, ap, subst, arith}
 use Rattle.std.specs.Prelude.{IsTrue}
 use Rattle.oc_host.specs.Disk.{Disk}
 use Rattle.oc_layout.specs.declared.cells.CellWrite.{CellWrite}
 use Rattle.oc_layout.specs.declared.cells.Header.{Header}
 use Rattle.oc_pages.specs.declared.page.Page.{Page}
 use Rattle.oc_slots.specs.Attaching.{IsFound, IsMade, MayBeMade}
-use Rattle.oc_slots.specs.Forms.{HasForm, Gives}
+use Rattle.oc_slots.specs.Forms.{HasForm, Gives, GivesFrom}
 use Rattle.oc_slots.specs.Maps.{SlotMap, Same}
 use Rattle.oc_slots.specs.Stores.{committed}
-use Rattle.oc_slots.proofs.Attached.{on_ok_map, all_leaves, len_looks, said_kept}
+use Rattle.oc_slots.proofs.Attached.{on_ok_map, all_leaves, found_first, len_looks, said_kept}
 use Rattle.oc_slots.proofs.Grounds.{ok_map}
 use Rattle.oc_slots.proofs.store.SlotStore.attach.Goals as goal
 
@@ -27,6 +27,13 @@ returns-clause-form g c =
     let f = g.H.Host.disk c.attach_synced.new.host in
     ok_map c.attach_synced.result (λ store. IsTrue g.H.Host.tells → (h : Header) (ws : List CellWrite) (pages : List Page) → HasForm h ws pages e.bytes → IsFound h ws pages store e.bytes f.bytes) (λ store. IsTrue g.H.Host.tells → (h : Header) (ws : List CellWrite) (pages : List Page) → HasForm h ws pages old.bytes → IsFound h ws pages store old.bytes f.bytes) c.attach_synced.ensures.form
     (λ store was told. subst (λ b. (h : Header) (ws : List CellWrite) (pages : List Page) → HasForm h ws pages b → IsFound h ws pages store b f.bytes) (ap (λ (x : Disk). x.bytes) (c.in_ok-len.ensures.disk told) ∙ ap (λ (x : Disk). x.bytes) (c.in_ok-sync.ensures.disk told)) (was told))
+
+pub returns-clause-first : goal.returns-clause-first
+returns-clause-first g c =
+    let old = g.H.Host.disk c.args.host.now in
+    let f = g.H.Host.disk c.attach_synced.new.host in
+    ok_map c.attach_synced.result (λ store. IsTrue g.H.Host.tells → (h : Header) (ws : List CellWrite) (pages : List Page) → HasForm h ws pages old.bytes → IsFound h ws pages store old.bytes f.bytes) (λ store. IsTrue g.H.Host.tells → (first : ℕ) (m : SlotMap) → GivesFrom first old.bytes m → (store.header).first ≡ first) (returns-clause-form g c)
+    (λ store was told first m from. found_first first m store old.bytes f.bytes from (was told (from.gives).header (from.gives).writes (from.gives).pages (from.gives).form))
 
 pub returns-clause-made : goal.returns-clause-made
 returns-clause-made g c =

@@ -1,10 +1,10 @@
 use Rattle.std.proofs.Common.{◌≡◌, ◌∙◌, inr, ℕ, List, get_or, Option, Some, None, Err, sym, ap, subst, refl}
-use Rattle.std.specs.Prelude.{IfSome}
+use Rattle.std.specs.Prelude.{IfSome, is_some}
 use Rattle.std.specs.Map.{keys_of}
 use Rattle.oc_layout.specs.declared.cells.Space.TheVariants.{Objects, System}
 use Rattle.oc_layout.specs.Layout.{unit_of, is_wide}
 use Rattle.oc_host.specs.Disk.{LeavesOnly}
-use Rattle.oc_host.proofs.Moments.{weaken}
+use Rattle.oc_host.proofs.Moments.{said_stays, weaken}
 use Rattle.oc_pages.specs.Pages.{pointer_of}
 use Rattle.oc_room.specs.Rooms.{unplaced, placed, lacking}
 use Rattle.oc_room.proofs.Placed.{same_error}
@@ -12,12 +12,12 @@ use Rattle.oc_slots.specs.declared.commit_plan.CommitPlan.{CommitPlan}
 use Rattle.oc_slots.specs.declared.fault.SpaceFault.TheVariants as SpaceFault
 use Rattle.oc_slots.specs.Cached.{Cached, AreThose, without}
 use Rattle.oc_slots.specs.Commits.{BeforeOrAfter}
-use Rattle.oc_slots.specs.Maps.{content, changed}
-use Rattle.oc_slots.specs.Stores.{Slots, Agrees, ArePlaces, AreRead, IsPlace, IsUnchanged, session, kept, parts}
+use Rattle.oc_slots.specs.Maps.{content, changed, has_after}
+use Rattle.oc_slots.specs.Stores.{Slots, Agrees, ArePlaces, AreRead, IsPlace, IsSettled, IsUnchanged, session, session_place, kept, parts}
 use Rattle.oc_slots.specs.Planning.{AreLengths, IsPlan, IsReady, IsWritable, OldOrNew, moves, moves_in, pages_after}
-use Rattle.oc_slots.proofs.CommitFacts.{ready, writable, before_or_after, agrees_now, committed_now, session_now, header_kept, some_moved}
+use Rattle.oc_slots.proofs.CommitFacts.{ready, writable, before_or_after, agrees_now, committed_now, session_now, settled_then, header_kept, some_moved}
 use Rattle.oc_slots.proofs.CommitKept.{places_then, kept_then, reads_then}
-use Rattle.oc_slots.proofs.CommitSides.{whole_again, agrees_again, moves_seen, lengths_seen, idle_map_seen}
+use Rattle.oc_slots.proofs.CommitSides.{whole_again, agrees_again, moves_seen, lengths_seen, idle_map_seen, idle_there_seen}
 use Rattle.oc_slots.proofs.Fetches.{agrees_bare, agrees_with}
 use Rattle.oc_slots.proofs.KeptPlaces.{place_pages}
 use Rattle.oc_slots.proofs.SessionSteps.{seen}
@@ -59,6 +59,19 @@ returns-in-None-clause-session g c told id =
     ∙ idle_map_seen s.header s.pages s.overlay s.room s.len c.args.last.items d id ((c.in-Ok.ensures.idle c.in-None.is).0 id)
     ∙ (λ i. changed c.args.last.items (session (c.self.view_is i) d) id)
 
+pub returns-in-None-clause-settled : goal.returns-in-None-clause-settled
+returns-in-None-clause-settled g c =
+    let s = c.self.inside in
+    let last = c.args.last.items in
+    record {
+      objects = c.rollback.ensures.objects;
+      system = c.rollback.ensures.system;
+      there = λ id.
+          ap (λ l. is_some (pointer_of l id.space id.number)) (c.rollback.ensures.pages ∙ c.plan_commit.ensures.pages)
+          ∙ idle_there_seen s.header s.pages s.overlay s.room s.len last id ((c.in-Ok.ensures.idle c.in-None.is).0 id)
+          ∙ (λ i. has_after last id (is_some (session_place (c.self.view_is i) id)));
+    }
+
 -- ---- where it doesn't fit
 
 pub invariant_of-self : goal.invariant_of-self
@@ -76,6 +89,13 @@ returns-in-Err-clause-full g c need len limit is =
     let last = c.args.last.items in
     subst (λ (v : Slots). (limit ≡ v.room.limit) × ((lens : List ℕ) × AreLengths (is_wide v.header) v.pages (moves_in v last) last lens × (lacking v.room.unit v.room.limit (unplaced v.room) lens ≡ Some (record { need = need; length = len })))) c.self.view_is
     (told.0, (told.1.0, lengths_seen s.header s.pages s.overlay s.room s.len last told.1.0 told.1.1, told.1.2))
+
+pub returns-in-Err-clause-some_moved : goal.returns-in-Err-clause-some_moved
+returns-in-Err-clause-some_moved g c need len limit is =
+    let s = c.self.inside in
+    let last = c.args.last.items in
+    let told = c.in-Err.ensures.some_moved need len limit (ap Err (same_error c.in-Err.fault (SpaceFault.Full need len limit) is)) in
+    (told.0, (λ i. moves_in (sym c.self.view_is i) last told.0) ∙ moves_seen s.header s.pages s.overlay s.room s.len last told.0 ∙ told.1)
 
 pub returns-in-Err-clause-unchanged : goal.returns-in-Err-clause-unchanged
 returns-in-Err-clause-unchanged g c =
@@ -234,6 +254,14 @@ returns-clause-any_moment g c told =
     subst (λ v. LeavesOnly d z (BeforeOrAfter v last d)) c.self.view_is
     (weaken d z (BeforeOrAfter (seen s.header s.pages s.overlay s.room s.len) last d) (OldOrNew s.header s.pages.pages (pages_after plan s.pages.pages) plan d) moments (before_or_after s.header s.pages s.overlay s.room r s.fresh s.len last plan p c.self.invariant.0 c.requires.changes f full d agrees))
 
+pub returns-in_err-write_commit-clause-said : goal.returns-in_err-write_commit-clause-said
+returns-in_err-write_commit-clause-said g c told =
+    said_stays (g.H.Host.disk c.args.host.now) (g.H.Host.disk c.write_commit.new.host) _ (returns-in_err-write_commit-clause-any_moment g c told) (g.met.H.Host.sound c.write_commit.new.host told) (λ image said b. b.0)
+
+pub returns-clause-said : goal.returns-clause-said
+returns-clause-said g c told =
+    said_stays (g.H.Host.disk c.args.host.now) (g.H.Host.disk c.write_commit.new.host) _ (returns-clause-any_moment g c told) (g.met.H.Host.sound c.write_commit.new.host told) (λ image said b. b.0)
+
 pub returns-clause-agrees : goal.returns-clause-agrees
 returns-clause-agrees g c told =
     let s = c.self.inside in
@@ -291,11 +319,31 @@ returns-clause-session g c told id =
     session_now s.header s.pages s.overlay s.room r s.fresh s.len last plan p c.self.invariant.0 c.requires.changes f full d agrees c.install.new.pages c.new.result c.install.new.room z is_after c.new.ensures (c.in_ok-write_commit.ensures.map told s.pages.pages w) id
     ∙ (λ i. changed last (session (c.self.view_is i) d) id)
 
-pub returns-clause-objects : goal.returns-clause-objects
-returns-clause-objects g c = c.new.ensures Objects
+pub returns-in_err-write_commit-clause-spent : goal.returns-in_err-write_commit-clause-spent
+returns-in_err-write_commit-clause-spent g c is =
+    let s = c.self.inside in
+    let p = c.plan_commit.new.pages in
+    let r = c.plan_commit.new.room in
+    let last = c.args.last.items in
+    let plan = c.in-Some.plan in
+    let f : IsPlan s.header s.pages s.overlay s.room s.len last plan p r = subst (λ q. IfSome q (λ x. IsPlan s.header s.pages s.overlay s.room s.len last x p r)) c.in-Some.is c.in-Ok.ensures.plan in
+    let full = c.plan_commit.ensures.cells in
+    let now = parts plan.header c.install.new.pages c.new.result c.install.new.room plan.end c.forget_all.new.self in
+    subst (λ v. IsSettled last v now) c.self.view_is
+    (settled_then s.header s.pages s.overlay s.room r s.fresh s.len last plan p c.self.invariant.0 c.requires.changes f full c.install.new.pages c.new.result c.install.new.room s.cache c.forget_all.new.self (c.install.ensures.pages ∙ ap (pages_after plan) f.same_pages) c.new.ensures)
 
-pub returns-clause-system : goal.returns-clause-system
-returns-clause-system g c = c.new.ensures System
+pub returns-clause-settled : goal.returns-clause-settled
+returns-clause-settled g c =
+    let s = c.self.inside in
+    let p = c.plan_commit.new.pages in
+    let r = c.plan_commit.new.room in
+    let last = c.args.last.items in
+    let plan = c.in-Some.plan in
+    let f : IsPlan s.header s.pages s.overlay s.room s.len last plan p r = subst (λ q. IfSome q (λ x. IsPlan s.header s.pages s.overlay s.room s.len last x p r)) c.in-Some.is c.in-Ok.ensures.plan in
+    let full = c.plan_commit.ensures.cells in
+    let now = parts plan.header c.install.new.pages c.new.result c.install.new.room plan.end c.forget_all.new.self in
+    subst (λ v. IsSettled last v now) c.self.view_is
+    (settled_then s.header s.pages s.overlay s.room r s.fresh s.len last plan p c.self.invariant.0 c.requires.changes f full c.install.new.pages c.new.result c.install.new.room s.cache c.forget_all.new.self (c.install.ensures.pages ∙ ap (pages_after plan) f.same_pages) c.new.ensures)
 
 pub returns-clause-room : goal.returns-clause-room
 returns-clause-room g c =

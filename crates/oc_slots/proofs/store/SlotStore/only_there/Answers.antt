@@ -1,5 +1,5 @@
-use Rattle.std.proofs.Common.{◌≡◌, ◌∙◌, ℕ, ◌+◌, [], ◌∷◌, ◌++◌, take, inl, inr, sym, ap, subst, refl, arith}
-use Rattle.std.specs.Prelude.{◌↔◌, ◌⊎◌, Contains, IsSome}
+use Rattle.std.proofs.Common.{refl}
+use Rattle.std.specs.Prelude.{IsSome}
 use Rattle.oc_slots.specs.Stores.{session_place}
 use Rattle.oc_slots.proofs.Numbers.{none_in, there_more, there_whole}
 use Rattle.oc_slots.proofs.store.SlotStore.only_there.Goals as goal

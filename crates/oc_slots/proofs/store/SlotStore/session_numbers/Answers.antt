@@ -1,5 +1,5 @@
 use Rattle.std.proofs.Common.{◌≡◌, ◌∙◌, ℕ, nat_eq, ◌++◌, map, sym, ap, subst, refl}
-use Rattle.std.specs.Prelude.{◌↔◌, Contains, IsSome}
+use Rattle.std.specs.Prelude.{Contains, IsSome}
 use Rattle.std.specs.Map.{lookup}
 use Rattle.std.specs.Option.{option_map_or}
 use Rattle.oc_layout.specs.declared.cells.Space as spaces

@@ -1,0 +1,5 @@
+pub mod Contained
+pub mod Faults
+pub mod Alike
+pub mod Full
+pub mod Built

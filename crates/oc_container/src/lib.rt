@@ -1,0 +1,14 @@
+//! A container in a file: the state between two lines of a script, and the lines.
+#![tactic(auto)]
+
+mod attaching;
+mod committing;
+mod container;
+mod declaring;
+mod fault;
+mod rolling_back;
+mod schemas;
+
+pub use container::Container;
+pub use fault::Fault;
+pub use oc_store::{Making, Space, StartFault};

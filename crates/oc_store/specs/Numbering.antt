@@ -1,0 +1,16 @@
+-- The numbers that segments get.
+use Rattle.std.specs.Prelude.{ℕ, ◌≤◌, ◌<◌, ◌⊎◌, List}
+use Rattle.oc_model.specs.Lists.{IsOneOf}
+use Rattle.oc_chunks.specs.Ascending.{Pairs}
+
+-- a segment may have the number: 1 is the catalog's
+abbrev pub IsSegmentNumber : ℕ → Type 0
+IsSegmentNumber n = (2 ≤ n) × (n ≤ 2147483646)
+
+-- each number is below those that follow
+abbrev pub AreRising : List ℕ → Type 0
+AreRising = Pairs (λ m n. m < n)
+
+-- each number from 2 on that is below one of these is used or is one of them
+abbrev pub AreLeast : List ℕ → List ℕ → Type 0
+AreLeast used numbers = (m n : ℕ) → IsOneOf n numbers → 2 ≤ m → m < n → IsOneOf m used ⊎ IsOneOf m numbers
