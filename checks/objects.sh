@@ -6,27 +6,22 @@
 # reads none.
 set -eu
 cd "$(dirname "$0")/.."
-parts=$PWD/crates/bench_parts/out/bench_parts
-[ -x "$parts" ] || { echo "skipped: the program for measuring isn't built; rt ci leaves it"; exit 0; }
-command -v awk >/dev/null || { echo "skipped: there is no awk here"; exit 0; }
-room=$(mktemp -d)
-trap 'rm -rf "$room"' EXIT
-trap 'exit 1' HUP INT TERM
+. checks/lib/parts.sh
 
 # asks PIECE COUNT TIMES: so many objects, with at most TIMES the bytes of their records written.
 asks() {
     rm -f "$room/objects.oc"
-    said=$("$parts" "$1" "$2" "$room/objects.oc") || { echo "FAILED: $1 $2 didn't run: $said" >&2; exit 1; }
+    said=$(said_by "$1" "$2" "$room/objects.oc")
     echo "$said"
     echo "$said" | awk -v count="$2" -v times="$3" '{
         commits = int((count + 99) / 100)
         wrong = $5 != 4 * commits + 2 || $7 > times * 32 * count || $10 != 0
-    } END { exit NR != 1 || wrong }' || { echo "FAILED: $1 $2 ask for something else" >&2; exit 1; }
-    said=$("$parts" opened "$2" "$room/objects.oc") || { echo "FAILED: opened $2 didn't run: $said" >&2; exit 1; }
+    } END { exit NR != 1 || wrong }' || fail "$1 $2 ask for something else"
+    said=$(said_by opened "$2" "$room/objects.oc")
     echo "$said"
     echo "$said" | awk -v count="$2" '{
         wrong = $3 != 0 || $7 != 0 || $10 > 25 * count + 10000
-    } END { exit NR != 1 || wrong }' || { echo "FAILED: opened $2 asks for something else" >&2; exit 1; }
+    } END { exit NR != 1 || wrong }' || fail "opened $2 asks for something else"
 }
 
 asks objects 1000 5

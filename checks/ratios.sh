@@ -5,10 +5,9 @@
 # while the ratio is too great, up to five times.
 set -eu
 cd "$(dirname "$0")/.."
+. checks/lib/parts.sh
 bench=$PWD/crates/oc_bench/out/oc_bench
-parts=$PWD/crates/bench_parts/out/bench_parts
-[ -x "$bench" ] && [ -x "$parts" ] || { echo "skipped: the programs for measuring aren't built; rt ci leaves them"; exit 0; }
-command -v awk >/dev/null || { echo "skipped: there is no awk here"; exit 0; }
+[ -x "$bench" ] || skip "the program for measuring the lowest parts isn't built; rt ci leaves it"
 
 # user PIECE COUNT TURNS: the user time of so many runs, in milliseconds. A piece that needs a file gets a new one in each.
 file=
@@ -37,7 +36,7 @@ grows() {
     while :; do
         small=$(less "$small" "$(user "$1" "$2" "$4")")
         great=$(less "$great" "$(user "$1" "$3" "$4")")
-        [ "$small" -gt 0 ] || { echo "FAILED: $1 $2 didn't run, or took no time" >&2; exit 1; }
+        [ "$small" -gt 0 ] || fail "$1 $2 didn't run, or took no time"
         round=$((round + 1))
         awk -v s="$small" -v g="$great" -v most="$5" 'BEGIN { exit g / s > most }' && break
         [ "$round" -lt 5 ] || break
@@ -52,7 +51,7 @@ grows() {
 faster() {
     one=$(user "$1" "$3" "$4")
     other=$(user "$2" "$3" "$4")
-    [ "$other" -gt 0 ] || { echo "FAILED: $2 $3 didn't run, or took no time" >&2; exit 1; }
+    [ "$other" -gt 0 ] || fail "$2 $3 didn't run, or took no time"
     awk -v what="$1" -v beside="$2" -v count="$3" -v a="$one" -v b="$other" -v turns="$4" -v most="$5" 'BEGIN {
         printf "%s %d: %.1f ms, %s: %.1f ms, %.2f times as long, wanted at most %s%s\n", what, count, a / turns, beside, b / turns, a / b, most,
             (a / b > most ? ": TOO GREAT in this run" : "")
@@ -73,9 +72,6 @@ grows activate_cycle 1000 4000 200 4.8
 grows index 100000 400000 2 4.8
 faster index map 100000 4 20
 
-room=$(mktemp -d)
-trap 'rm -rf "$room"' EXIT
-trap 'exit 1' HUP INT TERM
 file=$room/slots.oc
 grows slots 100000 400000 4 4.6
 file=$room/objects.oc

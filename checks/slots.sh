@@ -4,24 +4,19 @@
 # 1,024 a page of 126 numbers, and 20 a number, which gets its cell once. Each slot is read once.
 set -eu
 cd "$(dirname "$0")/.."
-parts=$PWD/crates/bench_parts/out/bench_parts
-[ -x "$parts" ] || { echo "skipped: the program for measuring isn't built; rt ci leaves it"; exit 0; }
-command -v awk >/dev/null || { echo "skipped: there is no awk here"; exit 0; }
-room=$(mktemp -d)
-trap 'rm -rf "$room"' EXIT
-trap 'exit 1' HUP INT TERM
+. checks/lib/parts.sh
 
 # asks COUNT: so many slots.
 asks() {
     rm -f "$room/slots.oc"
-    said=$("$parts" slots "$1" "$room/slots.oc") || { echo "FAILED: slots $1 didn't run: $said" >&2; exit 1; }
+    said=$(said_by slots "$1" "$room/slots.oc")
     echo "$said"
     echo "$said" | awk -v count="$1" '{
         commits = int((count + 299) / 300)
         pages = int((count + 125) / 126)
         most = 1.3 * 40 * count + 1024 * pages + 20 * count
         wrong = $5 != 4 * commits + 2 || $7 > most || $10 != 40 * count
-    } END { exit NR != 1 || wrong }' || { echo "FAILED: slots $1 ask for something else" >&2; exit 1; }
+    } END { exit NR != 1 || wrong }' || fail "slots $1 ask for something else"
 }
 
 asks 300

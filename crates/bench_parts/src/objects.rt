@@ -6,16 +6,13 @@ ghost use Rattle.oc_slots.specs.declared.slot.Side.TheVariants.{Session};
 ghost use Rattle.oc_slots.specs.Attaching.{IsMaking};
 ghost use Rattle.oc_lists.specs.Changing.{AreRecChanges, IsStorable};
 ghost use Rattle.oc_lists.specs.Following.{MayFollow};
-ghost use Rattle.oc_marshal.specs.Records.{IsRecord};
-ghost use Rattle.oc_model.specs.Stores.{record_len};
 ghost use Rattle.oc_store.specs.Filed.{class_on};
 
 use crate::counting::Counting;
 use crate::fault::Fault;
 use oc_following::laws_of_following;
-use oc_lists::RecChange;
-use oc_marshal::{DecodeFault, Rec, decode};
-use oc_model::laws_spelling::record_len_is_exact;
+use oc_lists::{RecChange, storable_of};
+use oc_marshal::Rec;
 use oc_model::value::{Base, Kind, Txt};
 use oc_refactor::{declare, set_index};
 use oc_schema::{FieldText, FieldTexts, Schema, is_name};
@@ -123,30 +120,6 @@ fn prepare<R: Files + Print>(
     let indexed = with_index(alloc, store.schema(Side::Session))?;
     store.set_schema(host, indexed)?;
     Ok(())
-}
-
-/// The record, if it suits the schema.
-fn storable(schema: &Schema, rec: Rec) -> Option<Rec>
-    requires is { IsRecord rec }
-    requires short { record_len rec ≤ 262144 }
-    ensures { IfSome result (IsStorable schema.now) }
-{
-    if schema.suits(&rec) { Some(rec) } else { None }
-}
-
-/// The record of these bytes, if they are one's that isn't too long and suits the schema.
-fn storable_of(alloc: Global, schema: &Schema, bytes: &[u8]) -> Result<Option<Rec>, AllocError>
-    ensures { IfOk result (λ o. IfSome o (IsStorable schema.now)) }
-{
-    record_len_is_exact();
-    if bytes.len() > 262_144 {
-        return Ok(None);
-    }
-    match decode(alloc, bytes) {
-        Ok(rec) => Ok(storable(schema, rec)),
-        Err(DecodeFault::NotARecord) => Ok(None),
-        Err(DecodeFault::Memory) => Err(AllocError),
-    }
 }
 
 /// The record of a pilot with this number, if the schema has its class.

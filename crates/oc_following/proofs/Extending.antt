@@ -1,5 +1,6 @@
 -- A schema with all classes and fields of another one: it may follow where both keep the rules.
 use Rattle.std.proofs.Common.{◌≡◌, refl, sym, ap, ◌∙◌, subst, ℕ, zero, suc, ◌+◌, ◌-◌, ◌≤◌, inl, inr, Bool, true, false, not, ◌&&◌, ◌||◌, ◌==◌, List, [], ◌∷◌, length, map, filter, slice_get, Some, is_some, arith, true≢false}
+use Rattle.std.specs.Cmp.{both_ways}
 use Rattle.std.specs.List.{enumerate_from}
 use Rattle.std.proofs.lemmas.Bool.{eqb-true, eq-eqb}
 use Rattle.std.proofs.lemmas.Option.{slice_get_within, slice_get-get_or}
@@ -74,11 +75,6 @@ class_of_number s e h =
 pub within : (s : Schema) (c : ℕ) (d : ClassDef) → class_at s c ≡ Some d → c ≤ length s.classes
 within s zero d h = omega arith
 within s (suc i) d h = let lt = slice_get_within s.classes i d h in omega (arith, lt)
-
-both_ways : (a b : Bool) → (a ≡ true → b ≡ true) → (b ≡ true → a ≡ true) → a ≡ b
-both_ways true b f g = sym (f refl)
-both_ways false true f g = g refl
-both_ways false false f g = refl
 
 -- ---- a field is that of the objects of its class and of those below
 

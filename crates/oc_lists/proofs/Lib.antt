@@ -23,3 +23,4 @@ pub mod OneOrder
 pub mod Started
 pub mod OneIndex
 pub mod Reindexed
+pub mod SmallReferences

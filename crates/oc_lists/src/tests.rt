@@ -9,7 +9,7 @@ ghost use Rattle.oc_lists.specs.Changing.{IsStorable};
 ghost use Rattle.oc_lists.specs.Lists.{HasIndexes};
 
 use crate::bases::pairs_of;
-use crate::{RecChange, key_of, relist};
+use crate::{RecChange, key_of, relist, storable_of};
 use oc_index::Indexes;
 use oc_marshal::{Entries, Entry, Rec};
 use oc_schema::{ClassDef, Classes, FieldDef, Fields, Schema};
@@ -73,7 +73,7 @@ fn rec_of(alloc: Global, class: u32, weight: i32) -> Result<Rec, AllocError>
 }
 
 // A record of a class with the weight, or else without it, if either is one of the schema.
-fn storable_of(
+fn record_for(
     alloc: Global,
     schema: &Schema,
     class: u32,
@@ -134,10 +134,10 @@ fn change_one(
     }
     let (number, class, weight) = row;
     let old = match row_of(rows.as_slice(), number) {
-        Some((_, class, weight)) => storable_of(alloc, schema, class, weight)?,
+        Some((_, class, weight)) => record_for(alloc, schema, class, weight)?,
         None => None,
     };
-    let rec = storable_of(alloc, schema, class, weight)?;
+    let rec = record_for(alloc, schema, class, weight)?;
     relist_one_change(
         alloc,
         indexes,
@@ -271,4 +271,24 @@ fn is_number(key: &Atom, number: i128) -> bool {
         Atom::Int(value) => *value == number,
         _ => false,
     }
+}
+
+// Bytes, and the class of their record where the schema of the animals may have it.
+const SPELLED: &[(&[u8], Option<u32>)] = &[
+    (b"\0\0\0\x01\0\0", Some(1)),
+    (b"\0\0\0\x03\0\0", Some(3)),
+    (b"\0\0\0\x04\0\0", None),
+    (b"\0\0\0\x01\0\0\0", None),
+    (b"", None),
+];
+
+#[test]
+fn records_of_bytes(rt: HostRuntime) -> Result<(), Fail> {
+    let alloc = rt.alloc();
+    let schema = animals(alloc)?;
+    for (bytes, class) in SPELLED {
+        let rec = storable_of(alloc, &schema, bytes)?;
+        assert!(rt; rec.map(|rec| rec.class) == *class);
+    }
+    Ok(())
 }

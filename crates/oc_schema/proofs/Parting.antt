@@ -4,6 +4,7 @@ use denote.Ref.{Bor}
 use Rattle.std.proofs.lemmas.Bool.Decides.{nat_tests}
 use Rattle.std.proofs.lemmas.List.{drop_more}
 use Rattle.std.proofs.lemmas.List.Folds.{list_all-append}
+use Rattle.std.specs.Cmp.{both_ways}
 use Rattle.std.specs.List.{list_all, enumerate_from}
 use Rattle.oc_model.specs.declared.schema.FieldDef.{FieldDef}
 use Rattle.oc_model.specs.declared.schema.ClassDef.{ClassDef}
@@ -105,12 +106,6 @@ lines_parted s =
     all_both (λ e. a e && b e) c es ∙ ap (λ t. t && list_all c es) (all_both a b es)
 
 -- ---- the rules
-
-both_ways : (a b : Bool) → (a ≡ true → b ≡ true) → (b ≡ true → a ≡ true) → a ≡ b
-both_ways true true f g = refl
-both_ways true false f g = sym (f refl)
-both_ways false true f g = g refl
-both_ways false false f g = refl
 
 arranged : (n1 n2 d p dn b f dr o x y e an ff l : Bool)
     → (n1 && n2 && d && p && dn && b && (f && dr) && o && x && y && (e && an && ff && l && true)) ≡ (e && f && (n1 && p && (l && o && (n2 && dr && x && y))) && b && (an && ff && dn) && d)

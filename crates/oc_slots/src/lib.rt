@@ -2,16 +2,12 @@
 #![tactic(auto)]
 
 mod attach_fault;
-#[cfg(test)]
-mod attach_tests;
 mod attaching;
 mod bytes;
 mod cache;
 mod changing;
 mod commit;
 mod commit_plan;
-#[cfg(test)]
-mod commit_tests;
 mod commit_writing;
 mod fault;
 mod fetching;
@@ -34,8 +30,6 @@ mod run;
 mod settling;
 mod slot;
 mod store;
-#[cfg(test)]
-mod tests;
 mod turnover;
 mod writing;
 

@@ -35,4 +35,3 @@ pub mod UnchangedStore
 pub mod Reschemed
 pub mod AscendingLists
 pub mod Undamaged
-pub mod SmallReferences

@@ -25,6 +25,3 @@ mod writing;
 pub use fault::{ChangeFault, ReadFault, StartFault};
 pub use oc_slots::{Header, Making, Side, Space};
 pub use store::Store;
-
-#[cfg(test)]
-mod tests;

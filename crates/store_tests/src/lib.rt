@@ -1,9 +1,14 @@
-//! Tests of the object store over a host in memory, against plain maps of what it has.
+//! Tests of the object store over a host in memory: files that are attached, and changes, commits and rollbacks against plain maps of
+//! what the store has. There is nothing but tests here.
 #![tactic(auto)]
 
-pub mod plain;
-pub mod quiet;
-pub mod shapes;
 #[cfg(test)]
-mod tests;
-pub mod trial;
+mod attaching;
+#[cfg(test)]
+mod changing;
+#[cfg(test)]
+mod plain;
+#[cfg(test)]
+mod shapes;
+#[cfg(test)]
+mod trial;

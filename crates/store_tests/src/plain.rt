@@ -1,6 +1,5 @@
 //! A store as two plain lists, and steps that are taken by it and by a store in a file alike.
 
-use crate::quiet::Quiet;
 use crate::shapes::{NAME, SIZE, Shape, bytes_of, is_of_bytes, name_of, shapes};
 use crate::trial::{Trial, commit, declare, opened, put, take};
 use oc_index::Indexes;
@@ -8,6 +7,7 @@ use oc_marshal::Rec;
 use oc_schema::Schema;
 use oc_store::{Side, Store};
 use oc_value::{Atom, Txt};
+use quiet_host::Quiet;
 use std::alloc::{AllocError, Global};
 
 /// What becomes of a store.

@@ -3,22 +3,15 @@
 ghost use Rattle.std.specs.Prelude.{◌≡◌, ◌≤◌, ◌∷◌, [], IsTrue, IfOk, IfSome};
 ghost use Rattle.oc_slots.specs.declared.slot.Side.TheVariants.{Session};
 ghost use Rattle.oc_slots.specs.Attaching.{IsMaking};
-ghost use Rattle.oc_model.specs.Stores.{record_len};
-ghost use Rattle.oc_marshal.specs.Records.{IsRecord};
 ghost use Rattle.oc_lists.specs.Changing.{AreRecChanges, IsStorable};
 ghost use Rattle.oc_store.specs.Filed.{class_on};
 
-use crate::quiet::Quiet;
 use oc_host::MemHost;
-use oc_lists::RecChange;
-use oc_marshal::{DecodeFault, Rec, decode};
-use oc_model::laws_spelling::record_len_is_exact;
+use oc_lists::{RecChange, storable_of};
 use oc_schema::Schema;
 use oc_store::{ChangeFault, Making, Side, Store};
+use quiet_host::Quiet;
 use std::alloc::{AllocError, Global};
-
-/// The most bytes of a record.
-const LONGEST: usize = 262_144;
 
 /// The most that the next number may be.
 const LAST_NEXT: u32 = 2_147_483_647;
@@ -66,30 +59,6 @@ pub fn attached(alloc: Global, mut host: Quiet, limit: u32) -> Option<Trial>
 /// The store of the file as it is now.
 pub fn reopened(alloc: Global, trial: &Trial) -> Result<Option<Trial>, AllocError> {
     opened(alloc, trial.host.memory.bytes())
-}
-
-/// The record of these bytes, if they are one's that isn't too long and suits the schema.
-pub fn storable_of(alloc: Global, schema: &Schema, bytes: &[u8]) -> Result<Option<Rec>, AllocError>
-    ensures { IfOk result (λ o. IfSome o (IsStorable schema.now)) }
-{
-    record_len_is_exact();
-    if bytes.len() > LONGEST {
-        return Ok(None);
-    }
-    match decode(alloc, bytes) {
-        Ok(rec) => Ok(storable(schema, rec)),
-        Err(DecodeFault::NotARecord) => Ok(None),
-        Err(DecodeFault::Memory) => Err(AllocError),
-    }
-}
-
-// The record, if it suits the schema.
-fn storable(schema: &Schema, rec: Rec) -> Option<Rec>
-    requires is { IsRecord rec }
-    requires short { record_len rec ≤ 262144 }
-    ensures { IfSome result (IsStorable schema.now) }
-{
-    if schema.suits(&rec) { Some(rec) } else { None }
 }
 
 // Whether this may become of the object.
