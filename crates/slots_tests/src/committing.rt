@@ -1,152 +1,130 @@
-// Sessions are committed over a host in memory, and read again from the file.
-ghost use Rattle.std.specs.Prelude.{◌≡◌, ◌≤◌, ◌<◌, ℕ, length, IfOk, IfSome};
-ghost use Rattle.oc_slots.specs.Stores.{AreChanges};
+// Sessions are committed, and read again from the file.
+ghost use Rattle.std.specs.Prelude.{◌≤◌};
 
-use crate::changing::{bytes_of, empty, full, is_there, making, one};
+use crate::trial::{Trial, attached, making, one_of, opened};
 use oc_host::{Fill, MemHost};
 use oc_layout::Space;
-use oc_slots::{Side, SlotChange, SlotId, SlotStore, SpaceFault};
+use oc_slots::{Side, SpaceFault};
 use quiet_host::Quiet;
 use std::alloc::{AllocError, Global};
 use std::test::Fail;
 
-fn nothing(alloc: Global) -> Vec<SlotChange>
-    ensures { AreChanges result.items }
-{
-    Vec::new(alloc)
+// The store of the file as it is now.
+fn reopened(alloc: Global, bytes: &[u8]) -> Result<Option<Trial>, AllocError> {
+    opened(alloc, bytes, &making(1300, None))
 }
 
-fn object(number: u32) -> SlotId {
-    SlotId {
-        space: Space::Objects,
-        number,
+// Whether each object has its bytes on both sides: so many of its value, or none.
+fn have(trial: &mut Trial, rows: &[(u32, u8, usize)]) -> bool {
+    for row in rows {
+        let (number, value, len) = *row;
+        if !trial.has_both(number, value, len) {
+            return false;
+        }
     }
+    true
 }
 
-// Whether both sides have this object with these many bytes of this value, or neither has it.
-fn have(store: &mut SlotStore, host: &mut Quiet, number: u32, value: u8, len: usize) -> bool {
-    on(store, host, Side::Committed, number, value, len)
-        && on(store, host, Side::Session, number, value, len)
+fn first_commit(alloc: Global, trial: &mut Trial) -> Result<bool, AllocError> {
+    Ok(
+        trial.change(alloc, 1, 7, 20)?
+            && trial.commit(alloc).is_ok()
+            && trial.len() == 1188
+            && trial.stands(16, &[0, 0, 0, 148, 0, 0, 4, 0])
+            && trial.stands(32, &[0, 0, 4, 148, 0, 0, 0, 16]),
+    )
 }
 
-fn on(
-    store: &mut SlotStore,
-    host: &mut Quiet,
-    side: Side,
-    number: u32,
-    value: u8,
-    len: usize,
-) -> bool {
-    match store.fetch(host, side, object(number)) {
-        Ok(found) => is_there(&found, value, len),
-        Err(_) => false,
-    }
-}
-
-// The store of a file with these bytes.
-fn reopened(alloc: Global, bytes: &[u8]) -> Result<Option<(SlotStore, Quiet)>, AllocError> {
-    let mut copy = Vec::new(alloc);
-    copy.extend_from_slice(bytes)?;
-    let mut host = Quiet::of(MemHost::new(alloc, copy, Vec::new(alloc))?);
-    match SlotStore::attach(alloc, &mut host, &making(1300, None)) {
-        Ok(store) => Ok(Some((store, host))),
-        Err(_) => Ok(None),
-    }
+// The place of the first log is used again.
+fn second_commit(alloc: Global, trial: &mut Trial) -> Result<bool, AllocError> {
+    let log = [0, 0, 0, 1, 0, 0, 0, 172, 0, 0, 4, 164, 0, 0, 0, 20];
+    Ok(
+        trial.change(alloc, 2, 8, 20)?
+            && trial.commit(alloc).is_ok()
+            && trial.len() == 1208
+            && trial.stands(1172, &log),
+    )
 }
 
 #[test]
 fn a_commit_places_pages_and_a_log(rt: HostRuntime) -> Result<(), Fail> {
     let alloc = rt.alloc();
-    let mut host = empty(alloc)?;
-    let mut store = SlotStore::attach(alloc, &mut host, &making(1300, None)).expect(
-        &rt,
-        "a container",
-    );
-    store
-        .change(&mut host, one(alloc, 1, 7, 20)?)
-        .expect(&rt, "a slot");
-    store
-        .commit(&mut host, nothing(alloc))
-        .expect(&rt, "a commit");
-    assert_eq!(rt; host.memory.bytes().len(), 1188);
-    assert!(rt; host.memory.bytes().get(16..24) == Some(&[0, 0, 0, 148, 0, 0, 4, 0][..]));
-    assert!(rt; host.memory.bytes().get(32..40) == Some(&[0, 0, 4, 148, 0, 0, 0, 16][..]));
-    store
-        .change(&mut host, one(alloc, 2, 8, 20)?)
-        .expect(&rt, "a slot");
-    store
-        .commit(&mut host, nothing(alloc))
-        .expect(&rt, "a commit");
-    assert_eq!(rt; host.memory.bytes().len(), 1208);
-    let log = [0, 0, 0, 1, 0, 0, 0, 172, 0, 0, 4, 164, 0, 0, 0, 20];
-    assert!(rt; host.memory.bytes().get(1172..1188) == Some(&log[..]));
-    assert!(rt; have(&mut store, &mut host, 1, 7, 20) && have(&mut store, &mut host, 2, 8, 20));
-    let (mut again, mut file) = reopened(alloc, host.memory.bytes())?.expect(&rt, "a container");
-    assert!(rt; have(&mut again, &mut file, 1, 7, 20) && have(&mut again, &mut file, 2, 8, 20));
+    let mut trial = opened(alloc, &[], &making(1300, None))?.expect(&rt, "a container");
+    assert!(rt; first_commit(alloc, &mut trial)?);
+    assert!(rt; second_commit(alloc, &mut trial)?);
+    assert!(rt; have(&mut trial, &[(1, 7, 20), (2, 8, 20)]));
+    let mut again = reopened(alloc, trial.host.memory.bytes())?.expect(&rt, "a container");
+    assert!(rt; have(&mut again, &[(1, 7, 20), (2, 8, 20)]));
     Ok(())
+}
+
+fn full(answer: Result<(), SpaceFault>) -> Option<(u64, u32, u32)> {
+    match answer {
+        Err(SpaceFault::Full { need, len, limit }) => Some((need, len, limit)),
+        _ => None,
+    }
+}
+
+fn is_full(alloc: Global, trial: &mut Trial) -> Result<bool, AllocError> {
+    Ok(
+        trial.change(alloc, 1, 7, 20)?
+            && full(trial.commit(alloc)) == Some((16, 1172, 1187))
+            && trial.has(Side::Session, 1, 7, 20)
+            && trial.has(Side::Committed, 1, 0, 0),
+    )
+}
+
+fn is_as_before(alloc: Global, trial: &mut Trial) -> bool {
+    trial.store.rollback();
+    trial.has_both(1, 0, 0) && trial.commit(alloc).is_ok() && trial.len() == 148
 }
 
 #[test]
 fn a_commit_without_room_changes_nothing(rt: HostRuntime) -> Result<(), Fail> {
     let alloc = rt.alloc();
-    let mut host = empty(alloc)?;
-    let mut store = SlotStore::attach(alloc, &mut host, &making(1187, None)).expect(
-        &rt,
-        "a container",
-    );
-    store
-        .change(&mut host, one(alloc, 1, 7, 20)?)
-        .expect(&rt, "a slot");
-    assert_eq!(rt;
-        full(store.commit(&mut host, nothing(alloc))),
-        Some((16, 1172, 1187))
-    );
-    assert!(rt; on(&mut store, &mut host, Side::Session, 1, 7, 20));
-    assert!(rt; on(&mut store, &mut host, Side::Committed, 1, 0, 0));
-    store.rollback();
-    assert!(rt; have(&mut store, &mut host, 1, 0, 0));
-    store
-        .commit(&mut host, nothing(alloc))
-        .expect(&rt, "nothing to commit");
-    assert_eq!(rt; host.memory.bytes().len(), 148);
+    let mut trial = opened(alloc, &[], &making(1187, None))?.expect(&rt, "a container");
+    assert!(rt; is_full(alloc, &mut trial)?);
+    assert!(rt; is_as_before(alloc, &mut trial));
     Ok(())
 }
 
 // The lengths of the file after a change of this slot, and after its commit.
 fn lengths_of_a_commit(
     alloc: Global,
-    store: &mut SlotStore,
-    host: &mut Quiet,
+    trial: &mut Trial,
     number: u32,
     len: usize,
 ) -> Result<Option<(usize, usize)>, AllocError>
     requires { (1 ≤ number) × (number ≤ 2147483646) }
 {
-    if store.change(host, one(alloc, number, 7, len)?).is_err() {
-        return Ok(None);
+    let is_there = trial.change(alloc, number, 7, len)?;
+    let changed = trial.len();
+    if is_there && trial.commit(alloc).is_ok() {
+        Ok(Some((changed, trial.len())))
+    } else {
+        Ok(None)
     }
-    let changed = host.memory.bytes().len();
-    if store.commit(host, nothing(alloc)).is_err() {
-        return Ok(None);
-    }
-    Ok(Some((changed, host.memory.bytes().len())))
 }
 
-// The lengths of the file after a change, its commit, and another change and commit, in blocks of so many bytes.
-fn lengths_in_blocks(alloc: Global, block: u32) -> Result<Option<[usize; 4]>, AllocError>
-    requires { (1 ≤ block) × (block ≤ 127) }
-{
-    let mut host = empty(alloc)?;
-    let Ok(mut store) = SlotStore::attach(alloc, &mut host, &making(128, Some(block))) else {
+// The lengths of the file after a change, its commit, and another change and commit.
+fn lengths_of_two(alloc: Global, trial: &mut Trial) -> Result<Option<[usize; 4]>, AllocError> {
+    let Some((first, second)) = lengths_of_a_commit(alloc, trial, 1, 20)? else {
         return Ok(None);
     };
-    let Some((first, second)) = lengths_of_a_commit(alloc, &mut store, &mut host, 1, 20)? else {
-        return Ok(None);
-    };
-    let Some((third, fourth)) = lengths_of_a_commit(alloc, &mut store, &mut host, 2, 30)? else {
+    let Some((third, fourth)) = lengths_of_a_commit(alloc, trial, 2, 30)? else {
         return Ok(None);
     };
     Ok(Some([first, second, third, fourth]))
+}
+
+// The same in blocks of so many bytes.
+fn lengths_in_blocks(alloc: Global, block: u32) -> Result<Option<[usize; 4]>, AllocError>
+    requires { (1 ≤ block) × (block ≤ 127) }
+{
+    match opened(alloc, &[], &making(128, Some(block)))? {
+        Some(mut trial) => lengths_of_two(alloc, &mut trial),
+        None => Ok(None),
+    }
 }
 
 #[test]
@@ -171,13 +149,9 @@ fn full_in_blocks(
 ) -> Result<Option<(u64, u32, u32)>, AllocError>
     requires { (1 ≤ block) × (block ≤ 127) }
 {
-    let mut host = empty(alloc)?;
-    match SlotStore::attach(alloc, &mut host, &making(128, Some(block))) {
-        Ok(mut store) => {
-            let last = one(alloc, 1, 7, len)?;
-            Ok(full(store.commit(&mut host, last)))
-        }
-        Err(_) => Ok(None),
+    match opened(alloc, &[], &making(128, Some(block)))? {
+        Some(mut trial) => Ok(full(trial.commit_with(alloc, 1, 7, len)?)),
+        None => Ok(None),
     }
 }
 
@@ -191,87 +165,125 @@ fn a_commit_is_full_by_blocks(rt: HostRuntime) -> Result<(), Fail> {
     Ok(())
 }
 
-// Makes a container with two commits: object 1 by a change, then object 2 as the last change in place of object 1. The
-// calls on the host when each was done.
-fn two_commits(alloc: Global, host: &mut Quiet) -> Result<Option<[u64; 2]>, AllocError> {
-    let Ok(mut store) = SlotStore::attach(alloc, host, &making(4096, None)) else {
-        return Ok(None);
-    };
-    if store.change(host, one(alloc, 1, 7, 20)?).is_err() {
+// ---- stops and faults
+
+// Commits object 1 by a change, then object 2 as the last change in place of object 1. The calls on the host when each was done.
+fn two_commits(alloc: Global, trial: &mut Trial) -> Result<Option<[u64; 2]>, AllocError> {
+    if !trial.change(alloc, 1, 7, 20)? || trial.commit(alloc).is_err() {
         return Ok(None);
     }
-    if store.commit(host, nothing(alloc)).is_err() {
+    let first = trial.host.memory.calls();
+    if !trial.change(alloc, 1, 9, 33)? || trial.commit_with(alloc, 2, 8, 40)?.is_err() {
         return Ok(None);
     }
-    let first = host.memory.calls();
-    if store.change(host, one(alloc, 1, 9, 33)?).is_err() {
-        return Ok(None);
-    }
-    if store.commit(host, one(alloc, 2, 8, 40)?).is_err() {
-        return Ok(None);
-    }
-    Ok(Some([first, host.memory.calls()]))
+    Ok(Some([first, trial.host.memory.calls()]))
 }
+
+// A store after two commits.
+fn committed_twice(alloc: Global) -> Result<Option<(Trial, [u64; 2])>, AllocError> {
+    match opened(alloc, &[], &making(4096, None))? {
+        Some(mut trial) => {
+            let calls = two_commits(alloc, &mut trial)?;
+            Ok(calls.map(|calls| (trial, calls)))
+        }
+        None => Ok(None),
+    }
+}
+
+// What the two objects have after no commit, one and two.
+const SHOWN: &[(u32, &[(u32, u8, usize)])] = &[
+    (0, &[(1, 0, 0), (2, 0, 0)]),
+    (1, &[(1, 7, 20), (2, 0, 0)]),
+    (2, &[(1, 9, 33), (2, 8, 40)]),
+];
 
 // How many commits a file with these bytes shows, if it opens and shows just those of some commit.
 fn commits_in(alloc: Global, bytes: &[u8]) -> Result<Option<u32>, AllocError> {
-    let Some((mut store, mut host)) = reopened(alloc, bytes)? else {
+    let Some(mut trial) = reopened(alloc, bytes)? else {
         return Ok(None);
     };
-    let shown = [(0, 0, 0, 0, 0), (1, 7, 20, 0, 0), (2, 9, 33, 8, 40)];
-    for (count, one, one_len, two, two_len) in shown {
-        if have(&mut store, &mut host, 1, one, one_len)
-            && have(&mut store, &mut host, 2, two, two_len)
-        {
-            return Ok(Some(count));
+    for (count, rows) in SHOWN {
+        if have(&mut trial, rows) {
+            return Ok(Some(*count));
         }
     }
     Ok(None)
 }
 
+// Whether the file is one that is being made, or shows the commits that were done, and perhaps the one under way.
+fn is_whole(alloc: Global, bytes: &[u8], done: u32) -> Result<bool, AllocError> {
+    let shown = commits_in(alloc, bytes)?;
+    Ok(bytes.len() <= 128 || shown == Some(done) || shown == Some(done.saturating_add(1)))
+}
+
+const FILLS: &[Fill] = &[
+    Fill::Kept,
+    Fill::Lost,
+    Fill::Byte(0),
+    Fill::Byte(1),
+    Fill::Byte(2),
+    Fill::Byte(255),
+];
+
+// Whether the file is whole where the host stops in this call, whatever becomes of what wasn't synced.
+fn stops_whole(alloc: Global, host: &Quiet, call: u64, done: u32) -> Result<bool, AllocError> {
+    for fill in FILLS {
+        let image = host.memory.image(alloc, call, *fill)?;
+        if !is_whole(alloc, &image, done)? {
+            return Ok(false);
+        }
+    }
+    Ok(true)
+}
+
 #[test]
 fn a_stop_leaves_the_last_commit_or_the_one_under_way(rt: HostRuntime) -> Result<(), Fail> {
     let alloc = rt.alloc();
-    let mut host = empty(alloc)?;
-    let [first, _] = two_commits(alloc, &mut host)?.expect(&rt, "two commits");
-    let fills = [
-        Fill::Kept,
-        Fill::Lost,
-        Fill::Byte(0),
-        Fill::Byte(1),
-        Fill::Byte(2),
-        Fill::Byte(255),
-    ];
-    for call in 1..=host.memory.calls() {
-        for fill in fills {
-            let image = host.memory.image(alloc, call, fill)?;
-            let shown = commits_in(alloc, &image)?;
-            let done = if call <= first { 0 } else { 1 };
-            assert!(rt; image.len() <= 128 || shown == Some(done) || shown == Some(done + 1));
-        }
+    let (trial, [first, last]) = committed_twice(alloc)?.expect(&rt, "two commits");
+    for call in 1..=last {
+        let done = if call <= first { 0 } else { 1 };
+        assert!(rt; stops_whole(alloc, &trial.host, call, done)?);
     }
     Ok(())
+}
+
+// A host in memory of which this call fails.
+fn failing(alloc: Global, call: u64) -> Result<Quiet, AllocError> {
+    let mut fails = Vec::new(alloc);
+    fails.push(call)?;
+    Ok(Quiet::of(MemHost::new(alloc, Vec::new(alloc), fails)?))
+}
+
+// The file after the two commits, if one of them is told to have failed.
+fn left_by(alloc: Global, trial: &mut Trial) -> Result<Option<Vec<u8>>, AllocError> {
+    match two_commits(alloc, trial)? {
+        Some(_) => Ok(None),
+        None => Ok(Some(trial.host.memory.bytes().to_vec(alloc)?)),
+    }
+}
+
+// The file of a run with two commits in which this call fails, if the run is told of it.
+fn failed(alloc: Global, call: u64) -> Result<Option<Vec<u8>>, AllocError> {
+    let host = failing(alloc, call)?;
+    match attached(alloc, host, &making(4096, None)) {
+        Some(mut trial) => left_by(alloc, &mut trial),
+        None => Ok(Some(Vec::new(alloc))),
+    }
 }
 
 #[test]
 fn a_call_that_fails_leaves_a_commit(rt: HostRuntime) -> Result<(), Fail> {
     let alloc = rt.alloc();
-    let mut sound = empty(alloc)?;
-    let [first, second] = two_commits(alloc, &mut sound)?.expect(&rt, "two commits");
-    for call in 1..=second {
-        let mut fails = Vec::new(alloc);
-        fails.push(call)?;
-        let memory = MemHost::new(alloc, Vec::new(alloc), fails)?;
-        let mut host = Quiet::of(memory);
-        assert!(rt; two_commits(alloc, &mut host)?.is_none());
-        let shown = commits_in(alloc, host.memory.bytes())?;
+    let (_, [first, last]) = committed_twice(alloc)?.expect(&rt, "two commits");
+    for call in 1..=last {
+        let bytes = failed(alloc, call)?.expect(&rt, "a fault");
         let done = if call <= first { 0 } else { 1 };
-        assert!(rt;
-            host.memory.bytes().len() <= 128 || shown == Some(done) || shown == Some(done + 1)
-        );
+        assert!(rt; is_whole(alloc, &bytes, done)?);
     }
     Ok(())
 }
+
+// ---- a run without a pattern
 
 // A number that looks drawn at random, and the next one.
 fn next(seed: u64) -> u64 {
@@ -284,108 +296,105 @@ const SLOTS: usize = 40;
 // What each of the slots has: so many bytes of this value.
 type Shadow = [(u8, usize); SLOTS];
 
-fn is_like(store: &mut SlotStore, host: &mut Quiet, side: Side, shadow: &Shadow) -> bool {
+// Both sides, and the number that the next step is drawn from.
+#[derive(Drop)]
+struct Sides {
+    committed: Shadow,
+    session: Shadow,
+    seed: u64,
+}
+
+fn is_like(trial: &mut Trial, side: Side, shadow: &Shadow) -> bool {
     for slot in 0..SLOTS {
         let (value, len) = shadow[slot];
-        if !on(store, host, side, slot as u32 + 1, value, len) {
+        if !trial.has(side, slot as u32 + 1, value, len) {
             return false;
         }
     }
     true
 }
 
+fn is_read_again(alloc: Global, trial: &Trial, shadow: &Shadow) -> Result<bool, AllocError> {
+    match reopened(alloc, trial.host.memory.bytes())? {
+        Some(mut again) => Ok(is_like(&mut again, Side::Session, shadow)),
+        None => Ok(false),
+    }
+}
+
+// Changes a slot, commits one, or gives up the session, in the file and in the shadows alike, and tells whether the file took it.
+fn go(alloc: Global, trial: &mut Trial, sides: &mut Sides, value: u8) -> Result<bool, AllocError> {
+    sides.seed = next(sides.seed);
+    let slot = (sides.seed >> 33) as usize % SLOTS;
+    let len = (sides.seed >> 20) as usize % 60;
+    let number = slot as u32 + 1;
+    match (sides.seed >> 40) % 4 {
+        0 | 1 => {
+            sides.session[slot] = (value, len);
+            trial.change(alloc, number, value, len)
+        }
+        2 => {
+            sides.session[slot] = (value, len);
+            sides.committed = sides.session;
+            let is_done = trial.commit_with(alloc, number, value, len)?.is_ok();
+            Ok(is_done && is_read_again(alloc, trial, &sides.committed)?)
+        }
+        _ => {
+            sides.session = sides.committed;
+            trial.store.rollback();
+            Ok(true)
+        }
+    }
+}
+
 #[test]
 fn many_steps_are_those_of_two_maps(rt: HostRuntime) -> Result<(), Fail> {
     let alloc = rt.alloc();
-    let mut host = empty(alloc)?;
-    let mut store = SlotStore::attach(alloc, &mut host, &making(100_000, None)).expect(
-        &rt,
-        "a container",
-    );
-    let mut session: Shadow = [(0, 0); SLOTS];
-    let mut committed = session;
-    let mut seed = 7;
+    let mut trial = opened(alloc, &[], &making(100_000, None))?.expect(&rt, "a container");
+    let mut sides = Sides {
+        committed: [(0, 0); SLOTS],
+        session: [(0, 0); SLOTS],
+        seed: 7,
+    };
     for value in 1..=30_u8 {
-        seed = next(seed);
-        let slot = (seed >> 33) as usize % SLOTS;
-        let entry = (value, (seed >> 20) as usize % 60);
-        let change = one(alloc, slot as u32 + 1, entry.0, entry.1)?;
-        match (seed >> 40) % 4 {
-            0 | 1 => {
-                store.change(&mut host, change).expect(&rt, "a change");
-                session[slot] = entry;
-            }
-            2 => {
-                store.commit(&mut host, change).expect(&rt, "a commit");
-                session[slot] = entry;
-                committed = session;
-                let (mut again, mut file) = reopened(alloc, host.memory.bytes())?.expect(
-                    &rt,
-                    "a container",
-                );
-                assert!(rt; is_like(&mut again, &mut file, Side::Session, &committed));
-            }
-            _ => {
-                store.rollback();
-                session = committed;
-            }
-        }
-        assert!(rt; is_like(&mut store, &mut host, Side::Session, &session));
-        assert!(rt; is_like(&mut store, &mut host, Side::Committed, &committed));
+        assert!(rt; go(alloc, &mut trial, &mut sides, value)?);
+        assert!(rt; is_like(&mut trial, Side::Session, &sides.session));
+        assert!(rt; is_like(&mut trial, Side::Committed, &sides.committed));
     }
     Ok(())
 }
 
-// A file with slots of 32, 10 and 63 bytes, of which the last is that of a commit.
-fn three_slots(alloc: Global) -> Result<Option<Quiet>, AllocError> {
-    let mut host = empty(alloc)?;
-    let Ok(mut store) = SlotStore::attach(alloc, &mut host, &making(100_000, None)) else {
-        return Ok(None);
-    };
-    for (number, len) in [(1, 32), (2, 10)] {
-        if store
-            .change(&mut host, one(alloc, number, 7, len)?)
-            .is_err()
-        {
-            return Ok(None);
-        }
-    }
-    match store.commit(&mut host, in_system(alloc, 63)?) {
-        Ok(_) => Ok(Some(host)),
-        Err(_) => Ok(None),
-    }
+// ---- cut files
+
+// Commits slots of 32, 10 and 63 bytes, of which the last is that of the commit, and tells whether that was done.
+fn commit_three(alloc: Global, trial: &mut Trial) -> Result<bool, AllocError> {
+    let are_there = trial.change(alloc, 1, 7, 32)? && trial.change(alloc, 2, 7, 10)?;
+    let last = one_of(alloc, Space::System, 1, 8, 63)?;
+    let Trial { host, store } = trial;
+    Ok(are_there && store.commit(host, last).is_ok())
 }
 
-// The first slot of the system with these many bytes.
-fn in_system(alloc: Global, len: usize) -> Result<Vec<SlotChange>, AllocError>
-    ensures { IfOk result (λ v. AreChanges v.items) }
-{
-    let mut changes = Vec::new(alloc);
-    let id = SlotId {
-        space: Space::System,
-        number: 1,
-    };
-    changes.push(SlotChange {
-        id,
-        bytes: bytes_of(alloc, 8, len)?,
-    })?;
-    Ok(changes)
+// Whether the file is refused where it is cut within its slots or pages, and else opens with the first object, which an empty one hasn't.
+fn is_cut_right(alloc: Global, bytes: &[u8]) -> Result<bool, AllocError> {
+    let is_file = bytes.is_empty() || bytes.len() >= 2281;
+    match reopened(alloc, bytes)? {
+        Some(mut trial) => {
+            let expected = if bytes.is_empty() { 0 } else { 32 };
+            Ok(is_file && trial.has_both(1, 7, expected))
+        }
+        None => Ok(!is_file),
+    }
 }
 
 #[test]
 fn a_file_that_is_cut_is_refused(rt: HostRuntime) -> Result<(), Fail> {
     let alloc = rt.alloc();
-    let whole = three_slots(alloc)?.expect(&rt, "a file");
-    let bytes = whole.memory.bytes();
+    let mut whole = opened(alloc, &[], &making(100_000, None))?.expect(&rt, "a container");
+    assert!(rt; commit_three(alloc, &mut whole)?);
+    let bytes = whole.host.memory.bytes();
     assert_eq!(rt; bytes.len(), 2297);
     for len in 0..=bytes.len() {
         let (cut, _) = bytes.split_at(len);
-        let opened = reopened(alloc, cut)?;
-        assert_eq!(rt; opened.is_some(), len == 0 || len >= 2281);
-        if let Some((mut store, mut host)) = opened {
-            let expected = if len == 0 { 0 } else { 32 };
-            assert!(rt; have(&mut store, &mut host, 1, 7, expected));
-        }
+        assert!(rt; is_cut_right(alloc, cut)?);
     }
     Ok(())
 }

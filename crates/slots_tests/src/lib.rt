@@ -10,3 +10,5 @@ mod changing;
 mod committing;
 #[cfg(test)]
 mod keeping;
+#[cfg(test)]
+mod trial;
