@@ -225,10 +225,25 @@ const FILLS: &[Fill] = &[
     Fill::Byte(255),
 ];
 
+// The file that is left where the host stops in this call, if there was such a call.
+fn left_at(
+    alloc: Global,
+    host: &Quiet,
+    call: u64,
+    fill: Fill,
+) -> Result<Option<Vec<u8>>, AllocError> {
+    if call == 0 || call > host.memory.calls() {
+        return Ok(None);
+    }
+    Ok(Some(host.memory.image(alloc, call, fill)?))
+}
+
 // Whether the file is whole where the host stops in this call, whatever becomes of what wasn't synced.
 fn stops_whole(alloc: Global, host: &Quiet, call: u64, done: u32) -> Result<bool, AllocError> {
     for fill in FILLS {
-        let image = host.memory.image(alloc, call, *fill)?;
+        let Some(image) = left_at(alloc, host, call, *fill)? else {
+            return Ok(false);
+        };
         if !is_whole(alloc, &image, done)? {
             return Ok(false);
         }
