@@ -1,5 +1,5 @@
 -- Two lists compared pair by pair, from a place on.
-use Rattle.std.proofs.Common.{◌≡◌, ℕ, zero, suc, ◌+◌, ◌<◌, Bool, true, false, ◌&&◌, List, [], ◌∷◌, length, drop, get_or, Some, None, slice_get, refl, sym, ap, ◌∙◌, arith, add-one}
+use Rattle.std.proofs.Common.{◌≡◌, ℕ, zero, suc, ◌+◌, ◌<◌, Bool, true, false, ◌&&◌, List, [], ◌∷◌, length, drop, get_or, slice_get, refl, sym, ap, ◌∙◌, arith, add-one}
 use lib.Pointwise.{pointwise, pointwise_long}
 use Rattle.oc_model.specs.declared.schema.ClassDef.{ClassDef}
 use Rattle.oc_model.specs.declared.schema.FieldDef.{FieldDef}

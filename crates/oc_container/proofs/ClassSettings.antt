@@ -1,5 +1,5 @@
 -- The settings of the classes that a schema has are those of the numbers up to its last class.
-use Rattle.std.proofs.Common.{◌≡◌, ℕ, zero, suc, ◌<◌, ◌≤◌, Bool, true, false, ◌&&◌, cond, nat_lt, nat_le, List, [], ◌∷◌, length, filter, None, Some, is_some, slice_get, refl, sym, ap, ◌∙◌, arith, subst, true≢false}
+use Rattle.std.proofs.Common.{◌≡◌, ℕ, zero, suc, Bool, true, false, ◌&&◌, cond, nat_lt, nat_le, List, [], ◌∷◌, length, filter, is_some, slice_get, refl, sym, ap, ◌∙◌, true≢false}
 use Rattle.std.proofs.Math.Dec.{leb-suc-zero, leb-suc-suc, leb-zero}
 use Rattle.std.specs.List.{list_all}
 use Rattle.oc_model.specs.declared.schema.ClassDef.{ClassDef}

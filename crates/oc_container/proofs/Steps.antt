@@ -1,5 +1,5 @@
 -- A container meets the step of a line, where its store and its memory do.
-use Rattle.std.proofs.Common.{◌≡◌, ◌⊎◌, inr, ℕ, ◌+◌, Bool, true, false, List, Option, Some, None, Result, Ok, Err, IfSome, IfOk, IfErr, OnErr, is_some, is_none, refl, sym, ap, ◌∙◌, subst, if◌then◌else◌}
+use Rattle.std.proofs.Common.{◌≡◌, inr, ℕ, ◌+◌, Bool, true, false, List, Option, Some, None, Result, Ok, Err, IfSome, IfOk, IfErr, OnErr, is_some, is_none, refl, sym, ap, ◌∙◌, subst, if◌then◌else◌}
 use Rattle.oc_host.specs.Disk.{Disk}
 use Rattle.oc_model.specs.declared.value.Rec.{Rec}
 use Rattle.oc_model.specs.declared.answer.Answer.{Answer}

@@ -1,22 +1,23 @@
 -- Which lines a container has by now, and what a declaration of a class leads to.
-use Rattle.std.specs.Prelude.{Bool, true, false, List, Option, Some, None, Err, is_none, if◌then◌else◌}
+use Rattle.std.specs.Prelude.{Bool, true, false, List, [], Option, Some, None, Err, is_none, if◌then◌else◌}
 use Rattle.oc_model.specs.declared.answer.Answer.{Answer}
 use Rattle.oc_model.specs.declared.answer.Answer.TheVariants as answer
 use Rattle.oc_model.specs.declared.answer.Word.TheVariants as word
 use Rattle.oc_model.specs.declared.command.Command.{Command}
-use Rattle.oc_model.specs.declared.command.Command.TheVariants.{Class, Commit, Rollback}
+use Rattle.oc_model.specs.declared.command.Command.TheVariants.{Class, Commit, Query, Rollback}
 use Rattle.oc_model.specs.declared.command.Decl.{Decl}
 use Rattle.oc_model.specs.Maps.{Text}
 use Rattle.oc_model.specs.Schemas.{Schema, class_named}
 use Rattle.oc_model.specs.States.{State}
 use Rattle.oc_machine.specs.Outcomes.{Checked, Outcome, settled}
-use Rattle.oc_machine.specs.Reading.{Reading, reads}
+use Rattle.oc_machine.specs.Reading.{reads}
 use Rattle.oc_machine.specs.Runs.{Built}
 use Rattle.oc_machine.specs.SchemaLines.{class_step}
 
--- the commands: a class that is new, commit and rollback
+-- the commands: a class that is new, a query for all objects of a class, commit and rollback
 abbrev pub is_built_command : State → Command → Bool
 is_built_command m (Class name parent ds) = is_none (class_named m.session.schema name)
+is_built_command m (Query class None []) = true
 is_built_command m Commit = true
 is_built_command m Rollback = true
 is_built_command m c = false

@@ -6,6 +6,7 @@ use Rattle.oc_model.specs.States.{State, Settings}
 use Rattle.oc_model.specs.declared.answer.Answer.{Answer}
 use Rattle.oc_machine.specs.Outcomes.{Outcome}
 use Rattle.oc_live.specs.Memories.{Memory, memory_of}
+use Rattle.oc_slots.specs.Cached.{Cached}
 use Rattle.oc_store.specs.Changed.{IsSameStore}
 use Rattle.oc_store.specs.Filed.{FiledStore, Shows}
 
@@ -36,3 +37,7 @@ pub record IsSame (old new : Contained) : Type 0 where
 -- What is left of the store after a fault: it is as it was, or its session is given up.
 abbrev pub IsSpent : Contained → Disk → State → Type 0
 IsSpent v disk m = Shows v.store disk m.committed m.session ⊎ Shows v.store disk m.committed m.committed
+
+-- the store with these slots kept in memory
+abbrev pub keeping : Cached → FiledStore → FiledStore
+keeping kept v = record v { slots = record (v.slots) { cached = kept } }

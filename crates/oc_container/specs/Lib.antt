@@ -3,3 +3,4 @@ pub mod Faults
 pub mod Alike
 pub mod Full
 pub mod Built
+pub mod Asked

@@ -1,6 +1,6 @@
 //! The line `class` for a name that isn't a class yet.
 
-ghost use Rattle.std.specs.Prelude.{◌≡◌, ◌⊎◌, ◌≤◌, ℕ, true, Option, IsTrue, IsErrOf, IfErr, IfOk, OnErr, Err, Some};
+ghost use Rattle.std.specs.Prelude.{◌≡◌, ◌⊎◌, ◌≤◌, ◌+◌, ℕ, true, Option, IsTrue, IsErrOf, IfErr, IfOk, OnErr, Err, Some};
 ghost use Rattle.std.specs.List.{list_all};
 ghost use Rattle.std.specs.Option.{option_copied};
 ghost use Rattle.oc_host.specs.Counts.{Rose};
@@ -10,16 +10,19 @@ ghost use Rattle.oc_layout.specs.declared.cells.Space.TheVariants.{Objects};
 ghost use Rattle.oc_model.specs.declared.answer.Answer.TheVariants as answer;
 ghost use Rattle.oc_model.specs.declared.command.Command.TheVariants.{Class};
 ghost use Rattle.oc_model.specs.declared.value.Rec.{Rec as RecOf};
+ghost use Rattle.oc_model.specs.Lists.{IsOneOf};
 ghost use Rattle.oc_model.specs.Schemas.{Schema as SchemaOf, class_named};
 ghost use Rattle.oc_model.specs.SchemaRules.{is_name};
 ghost use Rattle.oc_model.specs.SchemaSteps.{declared};
 ghost use Rattle.oc_model.specs.States.{State};
 ghost use Rattle.oc_machine.specs.SchemaLines.{set_schema};
-ghost use Rattle.oc_lists.specs.Following.{MayFollow};
+ghost use Rattle.oc_chunks.specs.Chunks.{joined};
+ghost use Rattle.oc_lists.specs.Following.{reindexed, MayFollow};
 ghost use Rattle.oc_slots.specs.declared.slot.Side.TheVariants.{Session};
 ghost use Rattle.oc_slots.specs.Stores.{session};
 ghost use Rattle.oc_refactor.specs.Answers.{declare_told};
 ghost use Rattle.oc_store.specs.Filed.{class_on, Agrees, IsRead};
+ghost use Rattle.oc_store.specs.Reindexing.{objects_len};
 ghost use Rattle.oc_store.specs.Stands.{object_slot};
 ghost use Rattle.oc_container.specs.declared.fault.Fault.TheVariants as line_fault;
 ghost use Rattle.oc_container.specs.Built.{class_outcome, refusal};
@@ -39,7 +42,8 @@ impl Container {
     /// Declares the class, a new one: it gets the next number, and its fields the next ids. A name that is a class's is refused as
     /// no command, since a declaration of a class that is there isn't built yet.
     ///
-    /// Nothing is written. After a fault the container is spent: it is as before, or its session is given up.
+    /// Nothing is read and nothing is written: no object is of the new class. So no record is found damaged. After a fault the
+    /// container is spent: it is as before, or its session is given up.
     pub fn declare<H: Host>(
         &mut self,
         host: &mut H,
@@ -54,11 +58,11 @@ impl Container {
             Meets self.new (H.disk host.new) a (class_outcome m name.now (option_copied parent.entry) fields.now)) }
         ensures agrees { IsTrue H.tells → Agrees self.new.store (H.disk host.new) }
         ensures spent { OnErr result (IsTrue H.tells → (m : State) → Holds self.old (H.disk host.old) m → IsSpent self.new (H.disk host.new) m) }
-        ensures damaged { (space : SpaceOf) (n : ℕ) → IsErrOf result (line_fault.Damaged space n) → (space ≡ Objects) × (IsTrue H.tells → (found : Option RecOf) →
-            IsRead ((self.old.store).session).schema (class_on Session self.old.store n) (session (self.old.store).slots (H.disk host.old) (object_slot n)) found → ⊥) }
+        ensures undamaged { (space : SpaceOf) (n : ℕ) → IsErrOf result (line_fault.Damaged space n) → ⊥ }
         ensures looks { IsTrue H.tells → Looks (H.disk host.old) (H.disk host.new) }
         ensures later { H.faults host.old ≤ H.faults host.new }
         ensures cause { IsErrOf result line_fault.Host → Rose (H.faults host.old) (H.faults host.new) }
+        ensures taken { H.taken host.new ≤ H.taken host.old }
     {
         laws_of_following();
         let schema = self.store.schema(Side::Session);
@@ -81,11 +85,14 @@ impl Container {
             Meets self.new (H.disk host.new) a (set_schema m schema, answer.Done)) }
         ensures agrees { IsTrue H.tells → Agrees self.new.store (H.disk host.new) }
         ensures spent { OnErr result (IsTrue H.tells → (m : State) → Holds self.old (H.disk host.old) m → IsSpent self.new (H.disk host.new) m) }
-        ensures damaged { (space : SpaceOf) (n : ℕ) → IsErrOf result (line_fault.Damaged space n) → (space ≡ Objects) × (IsTrue H.tells → (found : Option RecOf) →
+        ensures damaged { (space : SpaceOf) (n : ℕ) → IsErrOf result (line_fault.Damaged space n) → (space ≡ Objects)
+            × IsOneOf n (reindexed ((self.old.store).session).schema schema (joined (((self.old.store).lists).extents).chunks)) × (IsTrue H.tells → (found : Option RecOf) →
             IsRead ((self.old.store).session).schema (class_on Session self.old.store n) (session (self.old.store).slots (H.disk host.old) (object_slot n)) found → ⊥) }
         ensures looks { IsTrue H.tells → Looks (H.disk host.old) (H.disk host.new) }
         ensures later { H.faults host.old ≤ H.faults host.new }
         ensures cause { IsErrOf result line_fault.Host → Rose (H.faults host.old) (H.faults host.new) }
+        ensures taken { H.taken host.new ≤ H.taken host.old + objects_len (self.old.store).slots
+            (reindexed ((self.old.store).session).schema schema (joined (((self.old.store).lists).extents).chunks)) }
     {
         self.store.set_schema(host, schema)?;
         Ok(Answer::Done)

@@ -6,8 +6,10 @@ mod committing;
 mod container;
 mod declaring;
 mod fault;
+mod querying;
 mod rolling_back;
 mod schemas;
+mod showing;
 
 pub use container::Container;
 pub use fault::Fault;

@@ -1,4 +1,4 @@
-use Rattle.std.proofs.Common.{◌≡◌, ℕ, is_some, ap, ◌∙◌, rules}
+use Rattle.std.proofs.Common.{◌≡◌, is_some, ap, ◌∙◌, rules}
 use Rattle.oc_model.specs.Nodes.{is_stored}
 use Rattle.oc_live.specs.Memories.{Memory}
 use Rattle.oc_slots.specs.declared.slot.Side.TheVariants.{Committed}

@@ -3,7 +3,7 @@ use Rattle.oc_model.specs.Nodes.{is_stored}
 use Rattle.oc_model.specs.SchemaEquality.{differs}
 use Rattle.oc_machine.specs.CommitLines.{settings_in}
 use Rattle.oc_live.specs.Kept.{with_kept}
-use Rattle.oc_live.specs.Memories.{Memory, cleared}
+use Rattle.oc_live.specs.Memories.{cleared}
 use Rattle.oc_container.proofs.Steps.{schemas_differ}
 use Rattle.oc_container.proofs.rolling_back.forget_lost.Goals as goal
 

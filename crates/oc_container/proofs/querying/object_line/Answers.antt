@@ -1,0 +1,12 @@
+use Rattle.std.proofs.Common.{◌∙◌, ap, sym, None, Some}
+use Rattle.oc_container.proofs.Found.{line_is}
+use Rattle.oc_container.proofs.querying.object_line.Goals as goal
+
+pub returns-in_default-clause-line : goal.returns-in_default-clause-line
+returns-in_default-clause-line g c = λ told t s shows.
+    line_is c.args.store.now (g.H.Host.disk c.args.host.now) t s shows c.args.number None (sym c.in_default.is ∙ c.in_ok-rec.ensures.record told t s shows)
+
+pub returns-clause-line : goal.returns-clause-line
+returns-clause-line g c = λ told t s shows.
+    ap Some c.in_ok-line.ensures
+    ∙ line_is c.fetch.new.self (g.H.Host.disk c.fetch.new.host) t s (c.fetch.ensures.shows told t s shows) c.args.number (Some c.in-Some.rec) (sym c.in-Some.is ∙ c.in_ok-rec.ensures.record told t s shows)
