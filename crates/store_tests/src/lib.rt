@@ -7,8 +7,18 @@ mod attaching;
 #[cfg(test)]
 mod changing;
 #[cfg(test)]
+mod large;
+#[cfg(test)]
 mod plain;
 #[cfg(test)]
 mod shapes;
 #[cfg(test)]
+mod stepping;
+#[cfg(test)]
+mod stopping;
+#[cfg(test)]
 mod trial;
+#[cfg(test)]
+mod unwritten;
+#[cfg(test)]
+mod wide;

@@ -1,7 +1,7 @@
 //! A store as two plain lists, and steps that are taken by it and by a store in a file alike.
 
 use crate::shapes::{NAME, SIZE, Shape, bytes_of, is_of_bytes, name_of, shapes};
-use crate::trial::{Trial, commit, declare, opened, put, take};
+use crate::trial::{Answer, Trial, commit, declare, opened, put, take};
 use oc_index::Indexes;
 use oc_marshal::Rec;
 use oc_schema::Schema;
@@ -45,6 +45,14 @@ pub fn copy_of(alloc: Global, plain: &Plain) -> Result<Plain, AllocError> {
     Ok(Plain {
         next: plain.next,
         objects: plain.objects.to_vec(alloc)?,
+    })
+}
+
+/// Both sides are this list.
+pub fn sides_of(alloc: Global, plain: &Plain) -> Result<Sides, AllocError> {
+    Ok(Sides {
+        committed: copy_of(alloc, plain)?,
+        session: copy_of(alloc, plain)?,
     })
 }
 
@@ -107,35 +115,42 @@ pub fn go(
     sides: &mut Sides,
     step: Step,
 ) -> Result<bool, AllocError> {
+    note(alloc, sides, step)?;
+    let answer = answer_of(alloc, trial, step)?;
+    Ok(answer == Some(Ok(())))
+}
+
+/// Takes the step in the lists.
+pub fn note(alloc: Global, sides: &mut Sides, step: Step) -> Result<(), AllocError> {
     match step {
-        Step::Put(number, class, key) => {
-            let shape = Shape { class, key };
-            sides.session.put(number, shape);
-            put_shape(alloc, trial, number, shape)
-        }
-        Step::Take(number) => {
-            sides.session.set(number, None);
-            take(alloc, trial, number)
-        }
-        Step::Commit => {
-            sides.committed = copy_of(alloc, &sides.session)?;
-            Ok(commit(trial))
-        }
+        Step::Put(number, class, key) => sides.session.put(number, Shape { class, key }),
+        Step::Take(number) => sides.session.set(number, None),
+        Step::Commit => sides.committed = copy_of(alloc, &sides.session)?,
+        Step::Rollback => sides.session = copy_of(alloc, &sides.committed)?,
+    }
+    Ok(())
+}
+
+/// Takes the step in the file.
+pub fn answer_of(alloc: Global, trial: &mut Trial, step: Step) -> Result<Answer, AllocError> {
+    match step {
+        Step::Put(number, class, key) => put_shape(alloc, trial, number, Shape { class, key }),
+        Step::Take(number) => take(alloc, trial, number),
+        Step::Commit => Ok(Some(trial.store.commit(&mut trial.host))),
         Step::Rollback => {
-            sides.session = copy_of(alloc, &sides.committed)?;
             trial.store.rollback();
-            Ok(true)
+            Ok(Some(Ok(())))
         }
     }
 }
 
-/// Gives the object the record of this class and key, and tells whether that was done.
-pub fn put_shape(
+// Gives the object the record of this class and key.
+fn put_shape(
     alloc: Global,
     trial: &mut Trial,
     number: u32,
     shape: Shape,
-) -> Result<bool, AllocError> {
+) -> Result<Answer, AllocError> {
     let bytes = bytes_of(alloc, shape)?;
     put(alloc, trial, number, &bytes)
 }

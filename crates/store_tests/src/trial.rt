@@ -16,6 +16,9 @@ use std::alloc::{AllocError, Global};
 /// The most that the next number may be.
 const LAST_NEXT: u32 = 2_147_483_647;
 
+/// What a call on the store answers, or nothing where the call may not be made.
+pub type Answer = Option<Result<(), ChangeFault>>;
+
 /// A store and its host.
 #[derive(Drop)]
 pub struct Trial {
@@ -90,7 +93,7 @@ pub fn change_one(
     host: &mut Quiet,
     change: RecChange,
     next: u32,
-) -> Result<Option<Result<(), ChangeFault>>, AllocError>
+) -> Result<Answer, AllocError>
     requires storable { IfSome change.rec (IsStorable (store.old.session).schema) }
 {
     if !may_change(store, &change, next) {
@@ -101,34 +104,32 @@ pub fn change_one(
     Ok(Some(store.change(host, next, changes)))
 }
 
-/// Gives the object the record of these bytes, and tells whether that was done.
+/// Gives the object the record of these bytes, if that is a record that the store may take.
 pub fn put(
     alloc: Global,
     trial: &mut Trial,
     number: u32,
     bytes: &[u8],
-) -> Result<bool, AllocError> {
+) -> Result<Answer, AllocError> {
     let Trial { host, store } = trial;
     let schema = store.schema(Side::Session);
     let Some(rec) = storable_of(alloc, schema, bytes)? else {
-        return Ok(false);
+        return Ok(None);
     };
     let next = store.next().max(number.saturating_add(1));
     let change = RecChange {
         number,
         rec: Some(rec),
     };
-    let done = change_one(alloc, store, host, change, next)?;
-    Ok(done == Some(Ok(())))
+    change_one(alloc, store, host, change, next)
 }
 
-/// Takes the object away, and tells whether that was done.
-pub fn take(alloc: Global, trial: &mut Trial, number: u32) -> Result<bool, AllocError> {
+/// Takes the object away.
+pub fn take(alloc: Global, trial: &mut Trial, number: u32) -> Result<Answer, AllocError> {
     let Trial { host, store } = trial;
     let next = store.next();
     let change = RecChange { number, rec: None };
-    let done = change_one(alloc, store, host, change, next)?;
-    Ok(done == Some(Ok(())))
+    change_one(alloc, store, host, change, next)
 }
 
 /// Commits, and tells whether that was done.
