@@ -13,6 +13,3 @@ mod writing;
 pub use catalog::{Catalog, ListEntry, Lists, Numbers};
 pub use reading::{CatalogFault, read_catalog};
 pub use writing::{write_catalog, write_catalog_of};
-
-#[cfg(test)]
-mod tests;

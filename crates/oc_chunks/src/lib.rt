@@ -22,6 +22,3 @@ pub use entry::{At, Cut, Entry};
 pub use list::ChunkList;
 pub use opening::Written;
 pub use reading::ChunkView;
-
-#[cfg(test)]
-mod tests;

@@ -38,6 +38,3 @@ pub fn convert(
         _ => Ok(None),
     }
 }
-
-#[cfg(test)]
-mod tests;

@@ -10,8 +10,6 @@ mod memory_source;
 mod plan;
 mod source;
 mod standard_input;
-#[cfg(test)]
-mod tests;
 
 pub use fault::IoFault;
 pub use file::FileHost;

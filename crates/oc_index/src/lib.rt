@@ -15,6 +15,3 @@ pub use field_index::FieldIndex;
 pub use indexes::Indexes;
 pub use items::{ExtentItem, IndexItem, key_copy};
 pub use ranges::End;
-
-#[cfg(test)]
-mod tests;

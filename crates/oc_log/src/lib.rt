@@ -9,8 +9,6 @@ mod gate;
 mod preparing;
 mod recovery;
 mod states;
-#[cfg(test)]
-mod tests;
 mod whole;
 
 pub use applying::apply;

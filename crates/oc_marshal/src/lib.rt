@@ -8,6 +8,3 @@ mod writing;
 pub use oc_value::{Entries, Entry, Rec};
 pub use reading::{DecodeFault, decode};
 pub use writing::encode;
-
-#[cfg(test)]
-mod tests;

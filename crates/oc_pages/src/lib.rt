@@ -15,8 +15,6 @@ mod pages;
 mod places;
 mod table;
 mod targets;
-#[cfg(test)]
-mod tests;
 
 pub use fault::PagesFault;
 pub use order::ascending;

@@ -10,6 +10,3 @@ pub use oc_model::answer::{
     Answer, Mark, NameLine, NameLines, ObjectLine, ObjectLines, Shown, ShownAtom, ShownAtoms,
     ShownField, ShownFields, ShownValue, Word,
 };
-
-#[cfg(test)]
-mod tests;

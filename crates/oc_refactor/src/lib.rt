@@ -16,6 +16,3 @@ pub use convert::{ConvertFault, ConvertPlan, convert_plan};
 pub use declaration::{DeclareFault, declare};
 pub use index::{IndexFault, set_index};
 pub use rename::{RenameClassFault, RenameFieldFault, rename_class, rename_field};
-
-#[cfg(test)]
-mod tests;

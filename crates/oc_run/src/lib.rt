@@ -7,8 +7,6 @@ mod list_store;
 mod running;
 mod script;
 mod status;
-#[cfg(test)]
-mod tests;
 mod words;
 
 pub use running::run;

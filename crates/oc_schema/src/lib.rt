@@ -13,6 +13,3 @@ pub use fields::latest_past;
 pub use oc_model::command::{Decl as FieldText, Decls as FieldTexts};
 pub use oc_model::schema::{ClassDef, FieldDef, Fields};
 pub use schema::{Classes, Schema};
-
-#[cfg(test)]
-mod tests;

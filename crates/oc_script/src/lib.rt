@@ -13,6 +13,3 @@ pub use oc_model::command::{
     Givens, Literal, NumberSetting, PathText, RunDepth, SideText, Single, Singles, TextOp,
     ValueText,
 };
-
-#[cfg(test)]
-mod tests;

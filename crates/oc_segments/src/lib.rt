@@ -10,6 +10,3 @@ pub use items::Item;
 pub use oc_index::{ExtentItem, IndexItem};
 pub use reading::{SegmentFault, read_segment};
 pub use writing::write_segment;
-
-#[cfg(test)]
-mod tests;

@@ -6,6 +6,3 @@ mod table;
 
 pub use sequence::{Parts, Sequence};
 pub use table::Table;
-
-#[cfg(test)]
-mod tests;
