@@ -4,3 +4,11 @@ pub mod Steps
 pub mod Unindexed
 pub mod Below
 pub mod Found
+pub mod Entries
+pub mod MoreLive
+pub mod Fitting
+pub mod Checks
+pub mod Listed
+pub mod Made
+pub mod SeenAlike
+pub mod NewObjects

@@ -4,3 +4,8 @@ pub mod Alike
 pub mod Full
 pub mod Built
 pub mod Asked
+pub mod Outlined
+pub mod Givens
+pub mod Woken
+pub mod Made
+pub mod Places

@@ -2,14 +2,23 @@
 #![tactic(auto)]
 
 mod attaching;
+mod checking;
 mod committing;
 mod container;
+mod copying;
+mod creating;
 mod declaring;
+mod entering;
 mod fault;
+mod making;
+mod numbers;
 mod querying;
+mod resolving;
 mod rolling_back;
 mod schemas;
 mod showing;
+mod values;
+mod waking;
 
 pub use container::Container;
 pub use fault::Fault;

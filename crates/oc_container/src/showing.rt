@@ -80,7 +80,7 @@ fn shown_field(
 ) -> Result<ShownField, AllocError>
     ensures { IfOk result (λ f. f ≡ field_of (marked store.now) entries.now field.now) }
 {
-    let value = match value_of(entries, field.id) {
+    let value = match value_under(entries, field.id) {
         Some(value) => shown_value(alloc, store, value)?,
         None => shown_value(alloc, store, &default_of(field.kind))?,
     };
@@ -90,8 +90,8 @@ fn shown_field(
     })
 }
 
-// The value of the first entry of this id.
-fn value_of(entries: &[Entry], id: u32) -> Option<&Value>
+/// The value of the first entry of this id.
+pub(crate) fn value_under(entries: &[Entry], id: u32) -> Option<&Value>
     ensures { option_map (λ v. v.now) result ≡ entry_of id entries.now }
 {
     for entry in entries {
