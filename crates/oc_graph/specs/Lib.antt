@@ -1,0 +1,6 @@
+pub mod Spelled
+pub mod Sights
+pub mod Closed
+pub mod Objects
+pub mod Going
+pub mod States
