@@ -10,7 +10,7 @@ use Rattle.oc_model.proofs.Elements.{in_left, in_right}
 use Rattle.oc_chunks.specs.Ascending.{Each}
 use Rattle.oc_chunks.proofs.Eaches.{each_append, each_at, each_more, pairs_append}
 use Rattle.oc_lists.proofs.IndexedKinds.{one_at}
-use Rattle.oc_store.specs.Numbering.{AreLeast, AreRising, IsSegmentNumber}
+use Rattle.oc_store.specs.Numbering.{AreLeast, AreRising, IsSegmentNumber, SplitAt}
 
 place_of : (xs : List ℕ) (n : ℕ) → IsOneOf n xs → (k : ℕ) × (k < length xs) × (get_or xs k 0 ≡ n)
 place_of [] n one = absurd one
@@ -26,6 +26,13 @@ rises (x ∷ xs) a zero (suc j) le lt = let above = each_at (λ y. x < y) j 0 xs
 rises (x ∷ xs) a (suc i) zero le lt = absurd (omega arith)
 rises (x ∷ xs) a (suc i) (suc j) le lt = rises xs a.1 i j (omega arith) (omega arith)
 
+rises_above : (xs : List ℕ) → AreRising xs → (i j : ℕ) → i < j → j < length xs → get_or xs i 0 < get_or xs j 0
+rises_above [] a i j below lt = absurd (omega arith)
+rises_above (x ∷ xs) a zero zero below lt = absurd (omega arith)
+rises_above (x ∷ xs) a zero (suc j) below lt = each_at (λ y. x < y) j 0 xs (omega arith) a.0
+rises_above (x ∷ xs) a (suc i) zero below lt = absurd (omega arith)
+rises_above (x ∷ xs) a (suc i) (suc j) below lt = rises_above xs a.1 i j (omega arith) (omega arith)
+
 module _ (xs : List ℕ) (x : ℕ) (rising : AreRising xs) where
   pub found : (r : Result ℕ ℕ) → IsBinarySearchResult (λ y. nat_cmp y x) xs r → OnTrue (is_ok r) (IsOneOf x xs)
   found (Ok i) is = let p = searched xs x (Ok i) is (rises xs rising) in subst (λ n. IsOneOf n xs) p.1 (one_at xs i 0 p.0)
@@ -40,6 +47,55 @@ module _ (xs : List ℕ) (x : ℕ) (rising : AreRising xs) where
         | inl lt ↦ (let low = p.1 k.0 lt in absurd (omega (arith, low, k.2)))
         | inr le ↦ (let high = p.2 k.0 le k.1 in absurd (omega (arith, high, k.2)))
       ]
+
+  -- where a search ends
+  pub place_found : (r : Result ℕ ℕ) → IsBinarySearchResult (λ y. nat_cmp y x) xs r → SplitAt xs x (elim r [ Ok i ↦ i | Err i ↦ i ])
+  place_found (Ok i) is =
+      let p = searched xs x (Ok i) is (rises xs rising) in
+      record {
+        below = λ k before lt. let above = rises_above xs rising k i before p.0 in omega (arith, above, p.1);
+        from = λ k le lt. let up = rises xs rising i k le lt in omega (arith, up, p.1);
+      }
+  place_found (Err i) is =
+      let p = searched xs x (Err i) is (rises xs rising) in
+      record { below = λ k before lt. p.1 k before; from = λ k le lt. let high = p.2 k le lt in omega (arith, high) }
+
+-- ---- the place of a number among those that are used
+
+module _ (used : List ℕ) (rising : AreRising used) (number place : ℕ) (split : SplitAt used number place) where
+  pub stands_at : place < length used → get_or used place 0 ≡ number → IsOneOf number used
+  stands_at lt same = subst (λ n. IsOneOf n used) same (one_at used place 0 lt)
+
+  pub behind : place < length used → get_or used place 0 ≡ number → SplitAt used (number + 1) (place + 1)
+  behind within same = record {
+    below = λ i before lt. let up = rises used rising i place (omega (arith, before)) within in omega (arith, up, same);
+    from = λ i le lt. let above = rises_above used rising place i (omega (arith, le)) lt in omega (arith, above, same);
+  }
+
+  module _ (apart : place < length used → get_or used place 0 ≡ number → ⊥) where
+    higher : (i : ℕ) → place ≤ i → i < length used → number < get_or used i 0
+    higher i le lt =
+        let within : place < length used = omega (arith, le, lt) in
+        let up = rises used rising place i le lt in
+        let low = split.from place (omega arith) within in
+        elim (cases_lt number (get_or used place 0)) [
+          | inl above ↦ omega (arith, above, up)
+          | inr same ↦ absurd (apart within (omega (arith, same, low)))
+        ]
+
+    pub stands_nowhere : IsOneOf number used → ⊥
+    stands_nowhere one =
+        let k = place_of used number one in
+        elim (cases_lt k.0 place) [
+          | inl before ↦ (let low = split.below k.0 before k.1 in absurd (omega (arith, low, k.2)))
+          | inr le ↦ (let high = higher k.0 le k.1 in absurd (omega (arith, high, k.2)))
+        ]
+
+    pub stays : SplitAt used (number + 1) place
+    stays = record {
+      below = λ i before lt. let low = split.below i before lt in omega (arith, low);
+      from = λ i le lt. let high = higher i le lt in omega (arith, high);
+    }
 
 -- ---- the numbers so far
 

@@ -49,6 +49,11 @@ one_gone kept n h = ap (λ b. gone_segments (cond (not b) (n ∷ []) [])) (not_a
 pub none_gone : (kept : List ℕ) (n : ℕ) → IsOneOf n kept → gone_segments (numbers_off kept (n ∷ [])) ≡ []
 none_gone kept n i = ap (λ b. gone_segments (cond (not b) (n ∷ []) [])) (is_among n kept i)
 
+-- where each of the numbers is kept none is gone
+pub all_kept : (kept ns : List ℕ) → Each (λ n. IsOneOf n kept) ns → gone_segments (numbers_off kept ns) ≡ []
+all_kept kept [] all = refl
+all_kept kept (n ∷ ns) all = ap (λ b. gone_segments (cond (not b) (n ∷ numbers_off kept ns) (numbers_off kept ns))) (is_among n kept all.0) ∙ all_kept kept ns all.1
+
 abbrev pub gone_changes : List ℕ → List ℕ → List SlotChange
 gone_changes kept ns = map system_change (gone_segments (numbers_off kept ns))
 

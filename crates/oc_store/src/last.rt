@@ -1,6 +1,7 @@
 //! What a commit changes last: the segments of the lists, and the catalog.
 
-ghost use Rattle.std.specs.Prelude.{◌≡◌, ◌⊎◌, ◌<◌, ◌≤◌, ◌++◌, ◌∷◌, ℕ, List, [], None, Some, length, map, flat_map, is_some, true, false, IsTrue, IfOk, OnOk};
+ghost use Rattle.std.specs.Prelude.{◌≡◌, ◌⊎◌, ◌<◌, ◌≤◌, ◌++◌, ◌∷◌, ℕ, List, [], None, Some, length, map, flat_map, is_some, true, false, IsTrue, IfOk, IfSome, OnOk};
+ghost use Rattle.std.specs.Bool.{OnTrue};
 ghost use Rattle.oc_model.specs.Lists.{IsOneOf};
 ghost use Rattle.oc_layout.specs.declared.cells.Space.TheVariants.{System};
 ghost use Rattle.oc_chunks.specs.Ascending.{Each};
@@ -127,11 +128,42 @@ fn put_gone(
 {
     let marked = lists.marked_numbers(alloc)?;
     let numbers = segments_of(alloc, entries)?;
+    if stand_in_order(&marked, &numbers) {
+        return Ok(());
+    }
     let kept = ascending(alloc, numbers)?;
     for number in &marked {
         put_if_gone(&kept, *number, changes)?;
     }
     Ok(())
+}
+
+// Whether all of the first numbers are found among the others in one go, in their order. Where a list lost no chunk, the
+// numbers that it had are.
+fn stand_in_order(numbers: &[u32], others: &[u32]) -> bool
+    ensures { OnTrue result (Each (λ n. IsOneOf n others.now) numbers.now) }
+{
+    let mut from = 0;
+    for number in numbers {
+        match place_from(others, from, *number) {
+            Some(place) => from = place + 1,
+            None => return false,
+        }
+    }
+    true
+}
+
+// The place of the number, from that place on.
+fn place_from(numbers: &[u32], from: usize, number: u32) -> Option<usize>
+    ensures place { IfSome result (λ p. p < length numbers.now) }
+    ensures one { IfSome result (λ _. IsOneOf number numbers.now) }
+{
+    for place in from..numbers.len() {
+        if numbers[place] == number {
+            return Some(place);
+        }
+    }
+    None
 }
 
 // The numbers of all segments of the entries.

@@ -1,10 +1,10 @@
 //! The numbers that new segments get.
 
-ghost use Rattle.std.specs.Prelude.{◌≡◌, ◌⊎◌, ◌++◌, ◌∷◌, [], ℕ, length, IfOk, OnOk};
+ghost use Rattle.std.specs.Prelude.{◌≡◌, ◌⊎◌, ◌+◌, ◌++◌, ◌∷◌, [], ℕ, length, IfOk, OnOk};
 ghost use Rattle.std.specs.Bool.{OnTrue, OnFalse};
 ghost use Rattle.oc_model.specs.Lists.{IsOneOf};
 ghost use Rattle.oc_chunks.specs.Ascending.{Each};
-ghost use Rattle.oc_store.specs.Numbering.{AreLeast, AreRising, IsSegmentNumber};
+ghost use Rattle.oc_store.specs.Numbering.{AreLeast, AreRising, IsSegmentNumber, SplitAt};
 
 use std::alloc::{AllocError, Global};
 
@@ -22,11 +22,12 @@ pub(crate) fn new_numbers(alloc: Global, used: &[u32], count: usize) -> Result<V
     ensures least { IfOk result (λ v. AreLeast used.now v.items) }
 {
     let mut numbers = Vec::new(alloc);
+    let mut place = first_from(used, 2);
     for number in 2..END {
         if numbers.len() == count {
             return Ok(numbers);
         }
-        push_free(&mut numbers, used, number)?;
+        place = push_free(&mut numbers, used, place, number)?;
     }
     if numbers.len() < count {
         return Err(AllocError);
@@ -34,16 +35,35 @@ pub(crate) fn new_numbers(alloc: Global, used: &[u32], count: usize) -> Result<V
     Ok(numbers)
 }
 
-// Adds the number if it isn't used.
-fn push_free(numbers: &mut Vec<u32>, used: &[u32], number: u32) -> Result<(), AllocError>
-    requires { AreRising used.now }
-    ensures { OnOk result (((numbers.new.items ≡ numbers.old.items) × IsOneOf number used.now)
+// The place of the first of the numbers, which ascend, that is this one or greater.
+fn first_from(numbers: &[u32], number: u32) -> usize
+    requires { AreRising numbers.now }
+    ensures { SplitAt numbers.now number result }
+{
+    match numbers.binary_search(&number) {
+        Ok(place) | Err(place) => place,
+    }
+}
+
+// Adds the number if it isn't used, and gives the place of the first that is used and greater. The place that is given is
+// that of the first that is the number or greater.
+fn push_free(
+    numbers: &mut Vec<u32>,
+    used: &[u32],
+    place: usize,
+    number: u32,
+) -> Result<usize, AllocError>
+    requires rising { AreRising used.now }
+    requires place { SplitAt used.now number place }
+    ensures place { IfOk result (λ place. SplitAt used.now (number + 1) place) }
+    ensures numbers { OnOk result (((numbers.new.items ≡ numbers.old.items) × IsOneOf number used.now)
         ⊎ ((numbers.new.items ≡ numbers.old.items ++ number ∷ []) × (IsOneOf number used.now → ⊥))) }
 {
-    if !is_among(used, number) {
-        numbers.push(number)?;
+    if place < used.len() && used[place] == number {
+        return Ok(place + 1);
     }
-    Ok(())
+    numbers.push(number)?;
+    Ok(place)
 }
 
 /// Whether the number is one of these, which ascend.
