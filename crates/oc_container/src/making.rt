@@ -33,6 +33,7 @@ pub(crate) fn make_given(
     ensures settings { live.new.settings ≡ live.old.settings }
     ensures unchanged { OnErr result (live.new ≡ live.old) }
 {
+    // Handles stand in one run, which this call tells, so all from `next` on can be taken back.
     let _ = live.first_handle();
     let next = live.next_handle();
     match wake_and_make(alloc, store, live, class, givens) {
