@@ -42,6 +42,9 @@ impl Store {
         ensures read { IfOk result (λ found. IsTrue H.tells →
             IsRead (heading_on side self.old).schema (class_on side self.old number) (map_on side (self.old.slots) (H.disk host.old) (object_slot number)) found) }
         ensures none { IfOk result (λ found. is_some found ≡ is_some (class_on side self.old number)) }
+        ensures class { IfOk result (λ found. IfSome found (λ r. class_on side self.old number ≡ Some r.class)) }
+        ensures suits { IfOk result (λ found. IfSome found (Suits (heading_on side self.old).schema)) }
+        ensures is { IfOk result (λ found. IfSome found IsRecord) }
         ensures damaged { (space : SpaceOf) (n : ℕ) → IsErrOf result (read_fault.Damaged space n) → (space ≡ Objects) × (n ≡ number) × (IsTrue H.tells → (found : Option RecOf) →
             IsRead (heading_on side self.old).schema (class_on side self.old number) (map_on side (self.old.slots) (H.disk host.old) (object_slot number)) found → ⊥) }
         ensures same { self.new ≡ record self.old { slots = record (self.old.slots) { cached = (self.new.slots).cached } } }
