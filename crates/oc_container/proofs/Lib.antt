@@ -12,3 +12,4 @@ pub mod Listed
 pub mod Made
 pub mod SeenAlike
 pub mod NewObjects
+pub mod Commands

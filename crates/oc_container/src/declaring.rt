@@ -1,6 +1,6 @@
 //! The line `class` for a name that isn't a class yet.
 
-ghost use Rattle.std.specs.Prelude.{◌≡◌, ◌⊎◌, ◌≤◌, ◌+◌, ℕ, true, Option, IsTrue, IsErrOf, IfErr, IfOk, OnErr, Err, Some};
+ghost use Rattle.std.specs.Prelude.{◌≡◌, ◌⊎◌, ◌≤◌, ◌+◌, ℕ, true, false, Option, IsTrue, IsErrOf, IfErr, IfOk, OnErr, Err, Some};
 ghost use Rattle.std.specs.List.{list_all};
 ghost use Rattle.std.specs.Option.{option_copied};
 ghost use Rattle.oc_host.specs.Counts.{Rose};
@@ -15,6 +15,7 @@ ghost use Rattle.oc_model.specs.Schemas.{Schema as SchemaOf, class_named};
 ghost use Rattle.oc_model.specs.SchemaRules.{is_name};
 ghost use Rattle.oc_model.specs.SchemaSteps.{declared};
 ghost use Rattle.oc_model.specs.States.{State};
+ghost use Rattle.oc_machine.specs.Runs.{is_full};
 ghost use Rattle.oc_machine.specs.SchemaLines.{set_schema};
 ghost use Rattle.oc_chunks.specs.Chunks.{joined};
 ghost use Rattle.oc_lists.specs.Following.{reindexed, MayFollow};
@@ -56,6 +57,7 @@ impl Container {
         requires fields { list_all (λ d. is_name d.name) fields.now ≡ true }
         ensures step { IfOk result (λ a. IsTrue H.tells → (m : State) → Holds self.old (H.disk host.old) m →
             Meets self.new (H.disk host.new) a (class_outcome m name.now (option_copied parent.entry) fields.now)) }
+        ensures room { IfOk result (λ a. is_full (Some a) ≡ false) }
         ensures agrees { IsTrue H.tells → Agrees self.new.store (H.disk host.new) }
         ensures spent { OnErr result (IsTrue H.tells → (m : State) → Holds self.old (H.disk host.old) m → IsSpent self.new (H.disk host.new) m) }
         ensures undamaged { (space : SpaceOf) (n : ℕ) → IsErrOf result (line_fault.Damaged space n) → ⊥ }
@@ -83,6 +85,7 @@ impl Container {
         requires follows { MayFollow ((self.old.store).session).schema schema }
         ensures step { IfOk result (λ a. IsTrue H.tells → (m : State) → Holds self.old (H.disk host.old) m →
             Meets self.new (H.disk host.new) a (set_schema m schema, answer.Done)) }
+        ensures room { IfOk result (λ a. is_full (Some a) ≡ false) }
         ensures agrees { IsTrue H.tells → Agrees self.new.store (H.disk host.new) }
         ensures spent { OnErr result (IsTrue H.tells → (m : State) → Holds self.old (H.disk host.old) m → IsSpent self.new (H.disk host.new) m) }
         ensures damaged { (space : SpaceOf) (n : ℕ) → IsErrOf result (line_fault.Damaged space n) → (space ≡ Objects)
@@ -102,6 +105,7 @@ impl Container {
 // The refusal, or want of memory.
 fn refused(reason: DeclareFault) -> Result<Answer, Fault>
     ensures refused { IfOk result (λ a. refusal (declare_told (Err reason)) ≡ Some a) }
+    ensures room { IfOk result (λ a. is_full (Some a) ≡ false) }
     ensures memory { IfErr result (λ gave_up. gave_up ≡ line_fault.Memory) }
 {
     match reason {

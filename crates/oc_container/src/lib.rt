@@ -9,6 +9,7 @@ mod copying;
 mod creating;
 mod declaring;
 mod entering;
+mod executing;
 mod fault;
 mod making;
 mod numbers;

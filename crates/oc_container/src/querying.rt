@@ -1,6 +1,6 @@
 //! The line `query` for all objects of a class.
 
-ghost use Rattle.std.specs.Prelude.{◌≡◌, ◌≤◌, ◌+◌, ◌++◌, ◌∷◌, [], ℕ, true, Option, None, filter_map, is_some, option_to_list, if◌then◌else◌, IsTrue, IsErrOf, IfOk, OnOk};
+ghost use Rattle.std.specs.Prelude.{◌≡◌, ◌≤◌, ◌+◌, ◌++◌, ◌∷◌, [], ℕ, true, false, Option, None, Some, filter_map, is_some, option_to_list, if◌then◌else◌, IsTrue, IsErrOf, IfOk, OnOk};
 ghost use Rattle.oc_host.specs.Counts.{Rose};
 ghost use Rattle.oc_host.specs.Disk.{Looks};
 ghost use Rattle.oc_layout.specs.declared.cells.Space.{Space as SpaceOf};
@@ -13,6 +13,7 @@ ghost use Rattle.oc_model.specs.States.{State};
 ghost use Rattle.oc_model.specs.Stores.{Store as StoreOf};
 ghost use Rattle.oc_machine.specs.Outcomes.{settled};
 ghost use Rattle.oc_machine.specs.QueryLines.{query_step};
+ghost use Rattle.oc_machine.specs.Runs.{is_full};
 ghost use Rattle.oc_machine.specs.Showing.{stored_line};
 ghost use Rattle.oc_chunks.specs.Chunks.{joined};
 ghost use Rattle.oc_slots.specs.declared.slot.Side.TheVariants.{Session};
@@ -44,6 +45,7 @@ impl Container {
         requires { IsTrue H.tells → Agrees self.old.store (H.disk host.old) }
         ensures step { IfOk result (λ a. IsTrue H.tells → (m : State) → Holds self.old (H.disk host.old) m →
             Meets self.new (H.disk host.new) a (settled m (query_step m class.now None []))) }
+        ensures room { IfOk result (λ a. is_full (Some a) ≡ false) }
         ensures agrees { IsTrue H.tells → Agrees self.new.store (H.disk host.new) }
         ensures holds { IsTrue H.tells → (m : State) → Holds self.old (H.disk host.old) m → Holds self.new (H.disk host.new) m }
         ensures unchanged { self.new ≡ record self.old { store = keeping ((self.new.store).slots).cached self.old.store } }

@@ -2,6 +2,7 @@
 
 ghost use Rattle.std.specs.Prelude.{◌≡◌, is_some, if◌then◌else◌};
 ghost use Rattle.oc_host.specs.Disk.{Disk};
+ghost use Rattle.oc_model.specs.declared.answer.Answer.TheVariants as answer;
 ghost use Rattle.oc_model.specs.Nodes.{is_stored};
 ghost use Rattle.oc_model.specs.SchemaEquality.{differs};
 ghost use Rattle.oc_model.specs.States.{State};
@@ -27,6 +28,7 @@ impl Container {
     /// committed are detached. It reads nothing and takes no memory, and the file is as before.
     pub fn rollback(&mut self) -> Answer
         ensures step { (disk : Disk) (m : State) → Holds self.old disk m → Meets self.new disk result (rollback_step m) }
+        ensures answer { result ≡ answer.RolledBack }
         ensures agrees { (disk : Disk) → Agrees self.old.store disk → Agrees self.new.store disk }
         ensures fresh { IsFresh self.new.store }
     {
