@@ -32,7 +32,7 @@ objects_below s c extents = map (λ e. e.number) (filter (λ e. is_sub s e.class
 abbrev pub objects_named : FiledStore → Text → List ℕ
 objects_named v name = option_map_or (λ c. objects_below (v.session).schema c (joined ((v.lists).extents).chunks)) (class_named (v.session).schema name) []
 
--- those that a command reads: a query for all objects of a class reads these, and no other command that is built reads any
+-- those that a command reads: a query for all objects of a class reads these, and what else is built reads none
 abbrev pub objects_read : FiledStore → Command → List ℕ
 objects_read v (Query class None []) = objects_named v class
 objects_read v c = []

@@ -33,7 +33,6 @@ impl Container {
     /// changed. Only a query reads, and just the records of the objects that it asks for. Whatever a stop leaves stands for the
     /// store of the last commit, or, in a commit, for that or the session's. After `Memory` and `Damaged` the container is spent:
     /// it is as before, or its session is given up.
-    #[tactic(auto, unfolding(oc_machine::specs::Machine::step))]
     pub fn execute<H: Host>(&mut self, host: &mut H, command: &Command) -> Result<Answer, Fault>
         requires agrees { IsTrue H.tells → Agrees self.old.store (H.disk host.old) }
         requires count { (self.old.memory).commits < 2 ^ 64 - 1 }
@@ -62,7 +61,6 @@ impl Container {
     }
 
     // Answers a command that isn't a commit: what it does it does in memory, and of the file it only reads.
-    #[tactic(auto, unfolding(oc_machine::specs::Machine::step))]
     fn look<H: Host>(&mut self, host: &mut H, command: &Command) -> Result<Answer, Fault>
         requires agrees { IsTrue H.tells → Agrees self.old.store (H.disk host.old) }
         requires names { HasNames command.now }
