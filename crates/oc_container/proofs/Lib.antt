@@ -13,3 +13,7 @@ pub mod Made
 pub mod SeenAlike
 pub mod NewObjects
 pub mod Commands
+pub mod EnlistedNumbers
+pub mod NumberedStates
+pub mod Reached
+pub mod PlannedWalks

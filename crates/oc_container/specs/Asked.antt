@@ -1,7 +1,6 @@
 -- Which objects a query for a class is answered with, what is read of them, and how each is shown.
 use Rattle.std.specs.Prelude.{ℕ, ◌&&◌, nat_le, List, [], map, filter, is_some, Option, Some, None, if◌then◌else◌}
 use Rattle.std.specs.Option.{option_map_or}
-use Rattle.oc_host.specs.Disk.{Disk}
 use Rattle.oc_model.specs.declared.command.Command.{Command}
 use Rattle.oc_model.specs.declared.command.Command.TheVariants.{Query}
 use Rattle.oc_model.specs.declared.value.Entry.{Entry}
@@ -18,9 +17,7 @@ use Rattle.oc_machine.specs.Showing.{class_name, shown_fields, shown_value_by}
 use Rattle.oc_chunks.specs.Chunks.{joined}
 use Rattle.oc_index.specs.declared.items.ExtentItem.{ExtentItem}
 use Rattle.oc_slots.specs.declared.slot.Side.TheVariants.{Session}
-use Rattle.oc_slots.specs.Stores.{session}
-use Rattle.oc_store.specs.Filed.{class_on, FiledStore, IsRead}
-use Rattle.oc_store.specs.Stands.{object_slot}
+use Rattle.oc_store.specs.Filed.{class_on, FiledStore}
 
 -- ---- which objects
 
@@ -36,10 +33,6 @@ objects_named v name = option_map_or (λ c. objects_below (v.session).schema c (
 abbrev pub objects_read : FiledStore → Command → List ℕ
 objects_read v (Query class None []) = objects_named v class
 objects_read v c = []
-
--- the session's record of the object is damaged: its slot has bytes, and they spell no record of its class that suits the schema
-abbrev pub HasDamaged : FiledStore → Disk → ℕ → Type 0
-HasDamaged v d n = (found : Option Rec) → IsRead (v.session).schema (class_on Session v n) (session v.slots d (object_slot n)) found → ⊥
 
 -- ---- how an object is shown
 

@@ -9,3 +9,5 @@ pub mod Givens
 pub mod Woken
 pub mod Made
 pub mod Places
+pub mod Planned
+pub mod Enlisted

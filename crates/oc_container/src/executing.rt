@@ -11,11 +11,12 @@ ghost use Rattle.oc_model.specs.declared.command.Command.TheVariants as line;
 ghost use Rattle.oc_model.specs.Lists.{IsOneOf};
 ghost use Rattle.oc_model.specs.States.{State};
 ghost use Rattle.oc_machine.specs.Runs.{is_full};
+ghost use Rattle.oc_graph.specs.Objects.{IsDamagedRecord};
 ghost use Rattle.oc_store.specs.Filed.{Agrees};
 ghost use Rattle.oc_store.specs.Reindexing.{objects_len};
 ghost use Rattle.oc_store.specs.Stops.{StandsForEither};
 ghost use Rattle.oc_container.specs.declared.fault.Fault.TheVariants as line_fault;
-ghost use Rattle.oc_container.specs.Asked.{objects_read, HasDamaged};
+ghost use Rattle.oc_container.specs.Asked.{objects_read};
 ghost use Rattle.oc_container.specs.Built.{built_outcome, HasNames};
 ghost use Rattle.oc_container.specs.Contained.{Holds, IsSame, IsSpent, Meets};
 ghost use Rattle.oc_container.specs.Full.{LacksRoom};
@@ -46,7 +47,7 @@ impl Container {
             IsSpent self.new (H.disk host.new) m)) }
         ensures damaged { (space : SpaceOf) (n : ℕ) → IsErrOf result (line_fault.Damaged space n) →
             ((command.now ≡ line.Commit) × (host.new ≡ host.old) × IsSame self.old self.new)
-            ⊎ ((space ≡ Objects) × IsOneOf n (objects_read self.old.store command.now) × (IsTrue H.tells → HasDamaged self.old.store (H.disk host.old) n)) }
+            ⊎ ((space ≡ Objects) × IsOneOf n (objects_read self.old.store command.now) × (IsTrue H.tells → IsDamagedRecord self.old.store (H.disk host.old) n)) }
         ensures any_moment { IsTrue H.tells → (m : State) → Holds self.old (H.disk host.old) m →
             LeavesOnly (H.disk host.old) (H.disk host.new) (StandsForEither m.committed m.session (H.disk host.old)) }
         ensures said { IsTrue H.tells → (H.disk host.new).said ≡ (H.disk host.old).said }
@@ -71,7 +72,7 @@ impl Container {
         ensures agrees { IsTrue H.tells → Agrees self.new.store (H.disk host.new) }
         ensures spent { OnErr result (IsTrue H.tells → (m : State) → Holds self.old (H.disk host.old) m → IsSpent self.new (H.disk host.new) m) }
         ensures damaged { (space : SpaceOf) (n : ℕ) → IsErrOf result (line_fault.Damaged space n) →
-            (space ≡ Objects) × IsOneOf n (objects_read self.old.store command.now) × (IsTrue H.tells → HasDamaged self.old.store (H.disk host.old) n) }
+            (space ≡ Objects) × IsOneOf n (objects_read self.old.store command.now) × (IsTrue H.tells → IsDamagedRecord self.old.store (H.disk host.old) n) }
         ensures looks { IsTrue H.tells → Looks (H.disk host.old) (H.disk host.new) }
         ensures later { H.faults host.old ≤ H.faults host.new }
         ensures cause { IsErrOf result line_fault.Host → Rose (H.faults host.old) (H.faults host.new) }
